@@ -1,0 +1,8 @@
+use mathlib.Core.Path.{_≡_}
+use lib.ListN.{take}
+use Rattle.columnar.specs.Packed.{packed}
+use Rattle.columnar.proofs.Fronts.{overFront}
+use Rattle.columnar.proofs.pack.write_bits.Given as given
+
+abbrev pub Inv-loop-k : given.InvT-loop-k
+Inv-loop-k l = l .out ≡ overFront (packed (take (l .n) (l .bits))) (l .entry .out) (l .k)

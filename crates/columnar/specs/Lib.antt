@@ -1,0 +1,7 @@
+pub mod Packed
+pub mod Cells
+pub mod Rows
+pub mod Lists
+pub mod Memory
+pub mod Refusals
+pub mod Views

@@ -1,0 +1,9 @@
+pub mod bits;
+pub mod boolean;
+pub mod buffers;
+pub mod column;
+pub mod filter;
+pub mod mask;
+pub mod pack;
+pub mod refusal;
+pub mod rows;

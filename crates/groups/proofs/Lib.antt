@@ -1,0 +1,4 @@
+pub mod Accepting
+pub mod CheckLoops
+pub mod Fronts
+pub mod NamedGroups

@@ -1,0 +1,4 @@
+pub mod checks;
+pub mod emit;
+pub mod groups_accumulator;
+pub mod moves;

@@ -1,0 +1,4 @@
+pub mod Primitive
+pub mod Rules
+pub mod Combining
+pub mod Shown

@@ -1,0 +1,4 @@
+pub mod boolean;
+pub mod laws;
+pub mod operation;
+pub mod shows;

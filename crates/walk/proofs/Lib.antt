@@ -1,0 +1,4 @@
+pub mod Marking
+pub mod Plain
+pub mod Ticked
+pub mod Walks

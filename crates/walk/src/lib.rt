@@ -1,0 +1,3 @@
+pub mod accumulate;
+pub mod columns;
+pub mod null_state;
