@@ -5,3 +5,4 @@ pub mod Tally
 pub mod Moves
 pub mod Named
 pub mod Lines
+pub mod Limits

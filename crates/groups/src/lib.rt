@@ -1,4 +1,5 @@
 pub mod checks;
 pub mod emit;
 pub mod groups_accumulator;
+pub mod limits;
 pub mod moves;

@@ -10,18 +10,18 @@ use Rattle.std.specs.Options.{mapped, valueOr, isSome, Cases}
 use Rattle.std.specs.shelf.Lists.{All, sumBy}
 use Rattle.std.specs.declared.option.Option.{Option}
 use Rattle.std.specs.declared.option.Option.the-variants.{Some, None}
-use Rattle.std.proofs.shelf.Sums.{sumBy-cons}
+use Rattle.std.proofs.shelf.Lists.{length-take-le}
 use Rattle.std.proofs.shelf.Tests.{eq-eqb, and-parts, or-parts, ltb-false, not-true}
 use Rattle.columnar.specs.declared.refusal.Refusal.{Refusal}
 use Rattle.columnar.specs.Cells.{Cell, Ticks, passes, allPass, nulls}
 use Rattle.groups.specs.Lists.{allBelow, namesFrom, has}
 use Rattle.groups.specs.Lines.{batchLine}
 use Rattle.groups.specs.Tally.{Meaning, Conditions, refusal, differs, update-refusal}
-use Rattle.operations.specs.Primitive.{primitive}
+use Rattle.operations.specs.Primitive.{primitive, join-by}
 use Rattle.walk.specs.Seen.{inForce}
 use Rattle.walk.specs.Visits.{visits, toldAll}
 use Rattle.prim_op.specs.Kept.{creditsOf, markedAt, combinedAt}
-use Rattle.prim_op.proofs.Updates.{group-of, visits-all, names-has}
+use Rattle.prim_op.proofs.Updates.{group-of, forced-length, visits-all, names-has}
 
 -- the accumulator as a visitor
 pub told-memory : {V : Type 0} (start : V) (rule : V → V → V) (vs : List V) (ms : List Bool) (plain : Bool) (ps : List (ℕ × V))
@@ -66,6 +66,16 @@ credits-length [] [] e = refl
 credits-length [] (v ∷ vs) e = absurd (omega arith)
 credits-length (m ∷ ms) [] e = absurd (omega arith)
 credits-length (m ∷ ms) (v ∷ vs) e = let r : length (creditsOf ms vs) ≡ length vs = credits-length ms vs (omega arith) in omega (arith, r)
+
+-- the credits of the kept groups are as many as these
+pub kept-credits : {E : Type 0} (plain : Bool) (kept : ℕ) (ms : List Bool) (vs : List E) → kept ≤ length ms → kept ≤ length vs → length (creditsOf (inForce plain kept ms) (take kept vs)) ≡ kept
+kept-credits plain kept ms vs h l =
+    let e : length (take kept vs) ≡ kept = length-take-le kept vs l in
+    credits-length (inForce plain kept ms) (take kept vs) (forced-length plain kept ms h ∙ sym e) ∙ e
+
+pub join-none : {E : Type 0} (rule : E → E → E) (a : Option E) → join-by rule a None ≡ a
+join-none rule None = refl
+join-none rule (Some x) = refl
 
 module _ {E : Type 0} (start : E) (rule : E → E → E) (m : Meaning (Option E)) (kept : ℕ) (is : length (m .credits) ≡ kept) (none : m .most-pairs ≡ 0) (rows : List (Cell E)) (f : Ticks) (gs : List ℕ) (total : ℕ) where
   abbrev conditions : Bool → ℕ → Bool → Conditions

@@ -1,3 +1,4 @@
 pub mod Credits
 pub mod Updates
 pub mod Calls
+pub mod Emitting

@@ -1,2 +1,3 @@
-pub mod layout;
+pub mod bool_op;
 pub mod op_groups;
+pub mod prim_op;

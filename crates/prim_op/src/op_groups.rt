@@ -9,16 +9,24 @@ ghost use Rattle.std.specs.Options.{Cases};
 ghost use Rattle.std.specs.Results.{errPart};
 ghost use Rattle.std.specs.shelf.Lists.{All};
 ghost use Rattle.columnar.specs.Cells.{passes as letThrough};
+ghost use Rattle.columnar.specs.Memory.{stored};
 ghost use Rattle.columnar.specs.Views.{ticks};
-ghost use Rattle.groups.specs.Tally.{unless, update-refusal, updated};
+ghost use Rattle.groups.specs.Emits.{countOf};
+ghost use Rattle.groups.specs.Limits.{cap};
+ghost use Rattle.groups.specs.Tally.{fresh, unless, update-refusal, updated, evaluate-refusal, answer, removed};
 ghost use Rattle.operations.specs.Primitive.{primitive};
 ghost use Rattle.walk.specs.Visits.{visits, toldAll};
 ghost use Rattle.prim_op.specs.Means.{marksOf, valuesOf, meaningOf, Sound};
 use columnar::filter::Filter;
 use columnar::refusal::Refusal;
 use columnar::rows::Rows;
+use columnar::buffers::Buffers;
+use columnar::buffers::FlatBuffers;
 use groups::checks::refuse;
+use groups::emit::EmitTo;
+use groups::limits::MOST;
 use groups::moves::fill_part;
+use groups::moves::move_down;
 use operations::operation::Operation;
 use walk::accumulate::Visitor;
 use walk::columns::Accumulate;
@@ -35,6 +43,25 @@ pub struct OpGroupsAccumulator<'m, T, O, L> {
     pub(crate) most_groups: usize,
     pub(crate) op: O,
     pub(crate) layout: L,
+}
+
+impl<'m, T: Copy, O: Operation<T>, L> OpGroupsAccumulator<'m, T, O, L> {
+    /// An accumulator of no groups over lent memory, with a place and a mark for each group that it may keep.
+    pub fn new(values: &'m mut [T], marks: &'m mut [bool], op: O, layout: L, max_rows: usize, max_groups: usize) -> OpGroupsAccumulator<'m, T, O, L>
+        ensures sound { λ r. ⌜ Sound (O·Operation .start) r ⌝ }
+        ensures fresh { λ r. ⌜ meaningOf r ≡ fresh (primitive (O·Operation .start) (O·Operation .rule)) (record { rows = min «max_rows» cap; groups = min (min «max_groups» cap) (min (length (now (values .entry))) (length (now (marks .entry)))); pairs = 0 }) ⌝ }
+    {
+        let most_groups = max_groups.min(MOST).min(values.len().min(marks.len()));
+        OpGroupsAccumulator {
+            values,
+            marks,
+            null_state: NullState::new(),
+            most_rows: max_rows.min(MOST),
+            most_groups,
+            op,
+            layout,
+        }
+    }
 }
 
 /// A visit combines the value into its group's, and marks the group once the switch is marked.
@@ -107,6 +134,53 @@ impl<'m, T: Copy, O: Operation<T>, L> OpGroupsAccumulator<'m, T, O, L> {
         let turns = opt_filter.given() | (values.null_count() > 0);
         self.open(total, turns);
         walk(values, group_indices, opt_filter, self);
+        Ok(())
+    }
+
+    /// Writes what the groups asked for show; or a refusal, and nothing written.
+    pub(crate) fn show<B: FlatBuffers<T>>(&self, emit_to: EmitTo, out: &mut B) -> Result<(), Refusal>
+        requires { ⌜ Sound (O·Operation .start) (now self) ⌝ }
+        ensures answer { λ r. ⌜ errPart r ≡ evaluate-refusal (primitive (O·Operation .start) (O·Operation .rule)) (B·Buffers .layout) (meaningOf (now (self .entry))) «emit_to» (B·Buffers .room (B·Buffers .memory (now (out .entry)))) ⌝ }
+        ensures written { λ r. ⌜ B·Buffers .memory (now (out .exit)) ≡ unless (errPart r) (B·Buffers .memory (now (out .entry))) (stored (B·Buffers .masks) (B·Buffers .figures) (answer (primitive (O·Operation .start) (O·Operation .rule)) (meaningOf (now (self .entry))) «emit_to») (B·Buffers .memory (now (out .entry)))) ⌝ }
+    {
+        let kept = self.null_state.kept;
+        let rows = emit_to.count(kept);
+        if rows > kept {
+            return Err(Refusal::TooManyGroups);
+        }
+        let masked = self.null_state.is_marked();
+        if !out.fits(rows, masked) {
+            return Err(Refusal::ShortBuffer);
+        }
+        out.put(self.values, self.marks, rows, masked);
+        Ok(())
+    }
+
+    /// Removes the groups asked for, of which there are enough.
+    pub(crate) fn remove(&mut self, emit_to: EmitTo)
+        requires sound { ⌜ Sound (O·Operation .start) (now self) ⌝ }
+        requires few { ⌜ countOf «emit_to» (now self .«null_state» .kept) ≤ now self .«null_state» .kept ⌝ }
+        ensures stays { λ _. ⌜ Sound (O·Operation .start) (now (self .exit)) ⌝ }
+        ensures after { λ _. ⌜ meaningOf (now (self .exit)) ≡ removed (primitive (O·Operation .start) (O·Operation .rule)) (meaningOf (now (self .entry))) «emit_to» ⌝ }
+    {
+        let kept = self.null_state.kept;
+        let rows = emit_to.count(kept);
+        move_down(self.values, rows, kept);
+        let mut null_state = self.null_state;
+        null_state.remove(self.marks, emit_to);
+        self.null_state = null_state;
+    }
+
+    /// Shows the groups asked for and removes them; or a refusal, and nothing changed.
+    pub(crate) fn emit<B: FlatBuffers<T>>(&mut self, emit_to: EmitTo, out: &mut B) -> Result<(), Refusal>
+        requires { ⌜ Sound (O·Operation .start) (now self) ⌝ }
+        ensures stays { λ r. ⌜ Sound (O·Operation .start) (now (self .exit)) ⌝ }
+        ensures answer { λ r. ⌜ errPart r ≡ evaluate-refusal (primitive (O·Operation .start) (O·Operation .rule)) (B·Buffers .layout) (meaningOf (now (self .entry))) «emit_to» (B·Buffers .room (B·Buffers .memory (now (out .entry)))) ⌝ }
+        ensures after { λ r. ⌜ meaningOf (now (self .exit)) ≡ unless (errPart r) (meaningOf (now (self .entry))) (removed (primitive (O·Operation .start) (O·Operation .rule)) (meaningOf (now (self .entry))) «emit_to») ⌝ }
+        ensures written { λ r. ⌜ B·Buffers .memory (now (out .exit)) ≡ unless (errPart r) (B·Buffers .memory (now (out .entry))) (stored (B·Buffers .masks) (B·Buffers .figures) (answer (primitive (O·Operation .start) (O·Operation .rule)) (meaningOf (now (self .entry))) «emit_to») (B·Buffers .memory (now (out .entry)))) ⌝ }
+    {
+        self.show(emit_to, out)?;
+        self.remove(emit_to);
         Ok(())
     }
 }

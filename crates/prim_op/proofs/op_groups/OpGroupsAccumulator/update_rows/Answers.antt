@@ -10,7 +10,6 @@ use Rattle.std.specs.Options.{mapped, isSome, valueOr}
 use Rattle.std.specs.declared.option.Option.{Option}
 use Rattle.std.specs.declared.option.Option.the-variants.{Some, None}
 use Rattle.std.proofs.shelf.Elements.{all-weaker}
-use Rattle.std.proofs.shelf.Lists.{length-take-le}
 use Rattle.std.proofs.shelf.Results.{err-from-errBy}
 use Rattle.std.proofs.shelf.Tests.{and-parts}
 use Rattle.columnar.specs.Cells.{passes, nulls, seen}
@@ -24,19 +23,9 @@ use Rattle.walk.specs.Seen.{isPlain, inForce}
 use Rattle.walk.specs.Visits.{visits}
 use Rattle.prim_op.specs.Kept.{creditsOf, Unset}
 use Rattle.prim_op.specs.Means.{marksOf, valuesOf, meaningOf}
-use Rattle.prim_op.proofs.Updates.{Told, credits-updated, unset-updated, forced-length}
-use Rattle.prim_op.proofs.Calls.{told-memory, five-same, forced-same, visits-below, ticks-long, update-line, credits-length, switch-is, all-covered, meaning-same}
+use Rattle.prim_op.proofs.Updates.{Told, credits-updated, unset-updated}
+use Rattle.prim_op.proofs.Calls.{told-memory, five-same, forced-same, visits-below, ticks-long, update-line, kept-credits, join-none, switch-is, all-covered, meaning-same}
 use Rattle.prim_op.proofs.op_groups.OpGroupsAccumulator.update_rows.Needs as need
-
--- the credits of the kept groups are as many as these
-kept-credits : {E : Type 0} (plain : Bool) (kept : ℕ) (ms : List Bool) (vs : List E) → kept ≤ length ms → kept ≤ length vs → length (creditsOf (inForce plain kept ms) (take kept vs)) ≡ kept
-kept-credits plain kept ms vs h l =
-    let e : length (take kept vs) ≡ kept = length-take-le kept vs l in
-    credits-length (inForce plain kept ms) (take kept vs) (forced-length plain kept ms h ∙ sym e) ∙ e
-
-join-none : {E : Type 0} (rule : E → E → E) (a : Option E) → join-by rule a None ≡ a
-join-none rule None = refl
-join-none rule (Some x) = refl
 
 pub returns-in-Break-refuse : need.returns-in-Break-refuse
 returns-in-Break-refuse g c =

@@ -1,0 +1,46 @@
+ghost use Rattle.operations.specs.Primitive.{primitive};
+ghost use Rattle.operations.proofs.Credits.{primitive-laws};
+ghost use Rattle.prim_op.specs.Means.{meaningOf, Sound};
+use crate::op_groups::OpGroupsAccumulator;
+use columnar::boolean::BooleanColumn;
+use columnar::boolean::BooleanColumnRows;
+use columnar::buffers::BooleanBuffers;
+use columnar::buffers::BooleanBuffersBuffers;
+use columnar::buffers::BooleanBuffersFlat;
+use columnar::filter::Filter;
+use columnar::refusal::Refusal;
+use groups::emit::EmitTo;
+use groups::groups_accumulator::GroupsAccumulator;
+use operations::operation::Operation;
+use walk::columns::BooleanColumnAccumulate;
+
+/// Rows and answers lie as packed booleans.
+#[derive(Clone, Copy)]
+pub struct Packed;
+
+/// The accumulator of an operation over packed boolean columns.
+pub type BooleanGroupsAccumulator<'m, O> = OpGroupsAccumulator<'m, bool, O, Packed>;
+
+pub impl<'a, 'm, O: Operation<bool>> GroupsAccumulator<'a> for OpGroupsAccumulator<'m, bool, O, Packed> as BooleanGroups {
+    type Value = bool;
+    type State = bool;
+    type Out = bool;
+    type Values = BooleanColumn<'a>;
+    type Answers = BooleanBuffers<'a>;
+
+    ghost kind = { primitive (O·Operation .start) (O·Operation .rule) };
+
+    ghost laws = { primitive-laws (O·Operation .combines) (O·Operation .start) };
+
+    ghost meaning = { meaningOf };
+
+    ghost sound = { Sound (O·Operation .start) };
+
+    fn update_batch(&mut self, values: &BooleanColumn<'a>, group_indices: &[usize], opt_filter: &Filter<'_>, total_num_groups: usize) -> Result<(), Refusal> {
+        self.update_rows(values, group_indices, opt_filter, total_num_groups)
+    }
+
+    fn evaluate(&mut self, emit_to: EmitTo, out: &mut BooleanBuffers<'a>) -> Result<(), Refusal> {
+        self.emit(emit_to, out)
+    }
+}

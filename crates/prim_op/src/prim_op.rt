@@ -1,0 +1,46 @@
+ghost use Rattle.operations.specs.Primitive.{primitive};
+ghost use Rattle.operations.proofs.Credits.{primitive-laws};
+ghost use Rattle.prim_op.specs.Means.{meaningOf, Sound};
+use crate::op_groups::OpGroupsAccumulator;
+use columnar::buffers::PrimitiveBuffers;
+use columnar::buffers::PrimitiveBuffersBuffers;
+use columnar::buffers::PrimitiveBuffersFlat;
+use columnar::column::PrimitiveColumn;
+use columnar::column::PrimitiveColumnRows;
+use columnar::filter::Filter;
+use columnar::refusal::Refusal;
+use groups::emit::EmitTo;
+use groups::groups_accumulator::GroupsAccumulator;
+use operations::operation::Operation;
+use walk::columns::PrimitiveColumnAccumulate;
+
+/// Rows and answers lie as a value a row.
+#[derive(Clone, Copy)]
+pub struct Plain;
+
+/// The accumulator of an operation over primitive columns.
+pub type PrimitiveGroupsAccumulator<'m, T, O> = OpGroupsAccumulator<'m, T, O, Plain>;
+
+pub impl<'a, 'm, T: Copy + 'a, O: Operation<T>> GroupsAccumulator<'a> for OpGroupsAccumulator<'m, T, O, Plain> as PrimitiveGroups {
+    type Value = T;
+    type State = T;
+    type Out = T;
+    type Values = PrimitiveColumn<'a, T>;
+    type Answers = PrimitiveBuffers<'a, T>;
+
+    ghost kind = { primitive (O·Operation .start) (O·Operation .rule) };
+
+    ghost laws = { primitive-laws (O·Operation .combines) (O·Operation .start) };
+
+    ghost meaning = { meaningOf };
+
+    ghost sound = { Sound (O·Operation .start) };
+
+    fn update_batch(&mut self, values: &PrimitiveColumn<'a, T>, group_indices: &[usize], opt_filter: &Filter<'_>, total_num_groups: usize) -> Result<(), Refusal> {
+        self.update_rows(values, group_indices, opt_filter, total_num_groups)
+    }
+
+    fn evaluate(&mut self, emit_to: EmitTo, out: &mut PrimitiveBuffers<'a, T>) -> Result<(), Refusal> {
+        self.emit(emit_to, out)
+    }
+}
