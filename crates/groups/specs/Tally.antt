@@ -6,7 +6,7 @@
 --     Conditions       which of the refusals 5 to 14 hold of a call; one that a call does not look for is false
 --     refusal c        the first of them in line
 --     unless r a b     b where nothing is refused, else a
---     X-refusal, and what an accepted call gives: updated, answer, removed
+--     X-refusal, and what an accepted call gives: updated, merged, answer, peeked, removed, converted
 use mathlib.Core.Path.{_≡_}
 use mathlib.Core.Bool.{Bool, true, false, cond, _&&_, _||_, not}
 use mathlib.Core.List.{List, [], _∷_, _++_, map}
@@ -22,9 +22,9 @@ use Rattle.columnar.specs.declared.refusal.Refusal.the-variants.{TooManyRows, I
 use Rattle.columnar.specs.Cells.{Cell, Column, Ticks, seen, handed, passes, nulls}
 use Rattle.columnar.specs.Memory.{Layout, Room, short}
 use Rattle.groups.specs.declared.emit.EmitTo.{EmitTo}
-use Rattle.groups.specs.Lists.{deal, allBelow, namesFrom}
+use Rattle.groups.specs.Lists.{deal, zip, allBelow, namesFrom}
 use Rattle.groups.specs.Emits.{taken, others, tooMany, resets}
-use Rattle.groups.specs.Kind.{Kind, Switch, by-nulls, always-marked, always-plain}
+use Rattle.groups.specs.Kind.{Kind, Switch, by-nulls, always-marked, always-plain, read}
 
 pub record Meaning (C : Type 0) : Type 0 where
   pub credits : List C
@@ -79,6 +79,14 @@ emit-conditions many small =
       index-above = false; not-named = false; too-many-pairs = false; too-many-groups = many; buffer-short = small
     }
 
+-- 5, 7 and 14 alone
+abbrev pub convert-conditions : Bool → Bool → Bool → Conditions
+convert-conditions many differ small =
+    record {
+      too-many-rows = many; indices-differ = false; filter-differs = differ; total-below = false; total-above = false;
+      index-above = false; not-named = false; too-many-pairs = false; too-many-groups = false; buffer-short = small
+    }
+
 -- a refused call changes nothing
 abbrev pub unless : {A : Type 0} → Option Refusal → A → A → A
 unless None before after = after
@@ -106,6 +114,12 @@ abbrev pub left-by : Switch → EmitTo → Bool → Bool
 left-by by-nulls e before = before && not (resets e)
 left-by always-marked e before = true
 left-by always-plain e before = false
+
+-- conversions have a mask save where the switch is always plain
+abbrev pub converts-masked : Switch → Bool
+converts-masked by-nulls = true
+converts-masked always-marked = true
+converts-masked always-plain = false
 
 -- ── rows with a group ────────────────────────────────────────────────────
 -- those that the filter lets through
@@ -162,6 +176,17 @@ module _ {V S O : Type 0} (K : Kind V S O) where
   updated m rows filter groups total =
       with-credits m (with-rows m (row-entries rows filter groups) total) (turned (K .switch) (m .marked) (isSome filter || ltb 0 (nulls rows)))
 
+  -- ── merge ──
+  -- each state row's credit joined to its group's, in order
+  abbrev pub with-states : Means → List (ℕ × Cell S) → ℕ → List (K .Credit)
+  with-states m entries total = deal (λ c s. K .join c (read K s)) entries (opened m total)
+
+  abbrev pub merge-refusal : Means → List (Cell S) → List ℕ → ℕ → Option Refusal
+  merge-refusal m states groups total = refusal (batch-conditions m (length states) None groups total (with-states m (zip groups states) total))
+
+  abbrev pub merged : Means → List (Cell S) → List ℕ → ℕ → Means
+  merged m states groups total = with-credits m (with-states m (zip groups states) total) (turned (K .switch) (m .marked) (ltb 0 (nulls states)))
+
   -- ── evaluate ──
   abbrev pub answer : Means → EmitTo → Column O
   answer m e = handed (m .marked) (K .filler) (map (K .shown) (taken e (m .credits)))
@@ -172,3 +197,30 @@ module _ {V S O : Type 0} (K : Kind V S O) where
   -- the groups asked for are removed
   abbrev pub removed : Means → EmitTo → Means
   removed m e = with-credits m (others e (m .credits)) (left-by (K .switch) e (m .marked))
+
+  -- ── peek and forget, and state, which is both ──
+  abbrev pub state-column : Bool → List (K .Credit) → Column S
+  state-column masked cs = handed masked (K .under) (map (K .written) cs)
+
+  abbrev pub peeked : Means → EmitTo → Column S
+  peeked m e = state-column (m .marked) (taken e (m .credits))
+
+  abbrev pub peek-refusal : Layout S → Means → EmitTo → Room → Option Refusal
+  peek-refusal layout m e room = refusal (emit-conditions (tooMany e (length (m .credits))) (short layout room (peeked m e)))
+
+  abbrev pub forget-refusal : Means → EmitTo → Option Refusal
+  forget-refusal m e = refusal (emit-conditions (tooMany e (length (m .credits))) false)
+
+  -- ── conversion ──
+  -- each row's credit; the empty one for a row that is not let through
+  abbrev pub row-credits : List Bool → List (Cell V) → List (K .Credit)
+  row-credits [] cs = []
+  row-credits (p ∷ ps) [] = []
+  row-credits (p ∷ ps) (c ∷ cs) = cond p (K .of-row (seen c)) (K .empty) ∷ row-credits ps cs
+
+  abbrev pub converted : List (Cell V) → Ticks → Column S
+  converted rows filter = state-column (converts-masked (K .switch)) (row-credits (passes filter (length rows)) rows)
+
+  abbrev pub convert-refusal : Layout S → Means → List (Cell V) → Ticks → Room → Option Refusal
+  convert-refusal layout m rows filter room =
+      refusal (convert-conditions (ltb (m .most-rows) (length rows)) (differs filter (length rows)) (short layout room (converted rows filter)))

@@ -3,7 +3,7 @@ ghost use Rattle.std.specs.Results.{errPart};
 ghost use Rattle.columnar.specs.Views.{ticks};
 ghost use Rattle.columnar.specs.Memory.{stored};
 ghost use Rattle.groups.specs.Kind.{Kind, Laws};
-ghost use Rattle.groups.specs.Tally.{Means, unless, update-refusal, updated, evaluate-refusal, answer, removed};
+ghost use Rattle.groups.specs.Tally.{Means, unless, update-refusal, updated, merge-refusal, merged, evaluate-refusal, answer, peek-refusal, peeked, forget-refusal, removed};
 use crate::emit::EmitTo;
 use columnar::buffers::Buffers;
 use columnar::filter::Filter;
@@ -19,7 +19,9 @@ pub trait GroupsAccumulator<'a> {
     type Out;
     /// The views and buffers of these.
     type Values: Rows<Self::Value>;
+    type States: Rows<Self::State>;
     type Answers: Buffers<Self::Out>;
+    type StateBuffers: Buffers<Self::State>;
 
     ghost kind: { Kind Self·Value Self·State Self·Out };
 
@@ -38,6 +40,13 @@ pub trait GroupsAccumulator<'a> {
         ensures answer { λ r. ⌜ errPart r ≡ update-refusal kind (meaning (now (self .entry))) (Values·Rows .cells (now (values .entry))) (ticks (now («opt_filter» .entry))) (now («group_indices» .entry)) «total_num_groups» ⌝ }
         ensures after { λ r. ⌜ meaning (now (self .exit)) ≡ unless (errPart r) (meaning (now (self .entry))) (updated kind (meaning (now (self .entry))) (Values·Rows .cells (now (values .entry))) (ticks (now («opt_filter» .entry))) (now («group_indices» .entry)) «total_num_groups») ⌝ };
 
+    /// Joins each state row's credit to its group's; a null one is the empty credit.
+    fn merge_batch(&mut self, values: &Self::States, group_indices: &[usize], total_num_groups: usize) -> Result<(), Refusal>
+        requires sound { ⌜ sound (now self) ⌝ }
+        ensures stays { λ r. ⌜ sound (now (self .exit)) ⌝ }
+        ensures answer { λ r. ⌜ errPart r ≡ merge-refusal kind (meaning (now (self .entry))) (States·Rows .cells (now (values .entry))) (now («group_indices» .entry)) «total_num_groups» ⌝ }
+        ensures after { λ r. ⌜ meaning (now (self .exit)) ≡ unless (errPart r) (meaning (now (self .entry))) (merged kind (meaning (now (self .entry))) (States·Rows .cells (now (values .entry))) (now («group_indices» .entry)) «total_num_groups») ⌝ };
+
     /// Shows the groups asked for, and removes them.
     fn evaluate(&mut self, emit_to: EmitTo, out: &mut Self::Answers) -> Result<(), Refusal>
         requires sound { ⌜ sound (now self) ⌝ }
@@ -45,4 +54,30 @@ pub trait GroupsAccumulator<'a> {
         ensures answer { λ r. ⌜ errPart r ≡ evaluate-refusal kind (Answers·Buffers .layout) (meaning (now (self .entry))) «emit_to» (Answers·Buffers .room (Answers·Buffers .memory (now (out .entry)))) ⌝ }
         ensures after { λ r. ⌜ meaning (now (self .exit)) ≡ unless (errPart r) (meaning (now (self .entry))) (removed kind (meaning (now (self .entry))) «emit_to») ⌝ }
         ensures written { λ r. ⌜ Answers·Buffers .memory (now (out .exit)) ≡ unless (errPart r) (Answers·Buffers .memory (now (out .entry))) (stored (Answers·Buffers .masks) (Answers·Buffers .figures) (answer kind (meaning (now (self .entry))) «emit_to») (Answers·Buffers .memory (now (out .entry)))) ⌝ };
+
+    /// Writes the state rows of the groups asked for, and removes nothing.
+    fn peek(&self, emit_to: EmitTo, out: &mut Self::StateBuffers) -> Result<(), Refusal>
+        requires sound { ⌜ sound (now self) ⌝ }
+        ensures answer { λ r. ⌜ errPart r ≡ peek-refusal kind (StateBuffers·Buffers .layout) (meaning (now (self .entry))) «emit_to» (StateBuffers·Buffers .room (StateBuffers·Buffers .memory (now (out .entry)))) ⌝ }
+        ensures written { λ r. ⌜ StateBuffers·Buffers .memory (now (out .exit)) ≡ unless (errPart r) (StateBuffers·Buffers .memory (now (out .entry))) (stored (StateBuffers·Buffers .masks) (StateBuffers·Buffers .figures) (peeked kind (meaning (now (self .entry))) «emit_to») (StateBuffers·Buffers .memory (now (out .entry)))) ⌝ };
+
+    /// Removes the groups asked for, and writes nothing.
+    fn forget(&mut self, emit_to: EmitTo) -> Result<(), Refusal>
+        requires sound { ⌜ sound (now self) ⌝ }
+        ensures stays { λ r. ⌜ sound (now (self .exit)) ⌝ }
+        ensures answer { λ r. ⌜ errPart r ≡ forget-refusal kind (meaning (now (self .entry))) «emit_to» ⌝ }
+        ensures after { λ r. ⌜ meaning (now (self .exit)) ≡ unless (errPart r) (meaning (now (self .entry))) (removed kind (meaning (now (self .entry))) «emit_to») ⌝ };
+}
+
+/// Writes the state rows of the groups asked for, and removes them: a peek, and then a forgetting.
+pub fn state<'a, T: GroupsAccumulator<'a>>(accumulator: &mut T, emit_to: EmitTo, out: &mut T::StateBuffers) -> Result<(), Refusal>
+    requires sound { ⌜ T·GroupsAccumulator .sound (now accumulator) ⌝ }
+    ensures stays { λ r. ⌜ T·GroupsAccumulator .sound (now (accumulator .exit)) ⌝ }
+    ensures answer { λ r. ⌜ errPart r ≡ peek-refusal (T·GroupsAccumulator .kind) (StateBuffers·Buffers .layout) (T·GroupsAccumulator .meaning (now (accumulator .entry))) «emit_to» (StateBuffers·Buffers .room (StateBuffers·Buffers .memory (now (out .entry)))) ⌝ }
+    ensures after { λ r. ⌜ T·GroupsAccumulator .meaning (now (accumulator .exit)) ≡ unless (errPart r) (T·GroupsAccumulator .meaning (now (accumulator .entry))) (removed (T·GroupsAccumulator .kind) (T·GroupsAccumulator .meaning (now (accumulator .entry))) «emit_to») ⌝ }
+    ensures written { λ r. ⌜ StateBuffers·Buffers .memory (now (out .exit)) ≡ unless (errPart r) (StateBuffers·Buffers .memory (now (out .entry))) (stored (StateBuffers·Buffers .masks) (StateBuffers·Buffers .figures) (peeked (T·GroupsAccumulator .kind) (T·GroupsAccumulator .meaning (now (accumulator .entry))) «emit_to») (StateBuffers·Buffers .memory (now (out .entry)))) ⌝ }
+{
+    accumulator.peek(emit_to, out)?;
+    let _ = accumulator.forget(emit_to);
+    Ok(())
 }

@@ -2,3 +2,4 @@ pub mod Credits
 pub mod Updates
 pub mod Calls
 pub mod Emitting
+pub mod Merging

@@ -21,12 +21,14 @@ pub struct Packed;
 /// The accumulator of an operation over packed boolean columns.
 pub type BooleanGroupsAccumulator<'m, O> = OpGroupsAccumulator<'m, bool, O, Packed>;
 
-pub impl<'a, 'm, O: Operation<bool>> GroupsAccumulator<'a> for OpGroupsAccumulator<'m, bool, O, Packed> as BooleanGroups {
+pub impl<'a, 'm, O: Operation<bool> + 'a> GroupsAccumulator<'a> for OpGroupsAccumulator<'m, bool, O, Packed> as BooleanGroups {
     type Value = bool;
     type State = bool;
     type Out = bool;
     type Values = BooleanColumn<'a>;
+    type States = BooleanColumn<'a>;
     type Answers = BooleanBuffers<'a>;
+    type StateBuffers = BooleanBuffers<'a>;
 
     ghost kind = { primitive (O·Operation .start) (O·Operation .rule) };
 
@@ -40,7 +42,19 @@ pub impl<'a, 'm, O: Operation<bool>> GroupsAccumulator<'a> for OpGroupsAccumulat
         self.update_rows(values, group_indices, opt_filter, total_num_groups)
     }
 
+    fn merge_batch(&mut self, values: &BooleanColumn<'a>, group_indices: &[usize], total_num_groups: usize) -> Result<(), Refusal> {
+        self.merge_rows(values, group_indices, total_num_groups)
+    }
+
     fn evaluate(&mut self, emit_to: EmitTo, out: &mut BooleanBuffers<'a>) -> Result<(), Refusal> {
         self.emit(emit_to, out)
+    }
+
+    fn peek(&self, emit_to: EmitTo, out: &mut BooleanBuffers<'a>) -> Result<(), Refusal> {
+        self.show(emit_to, out)
+    }
+
+    fn forget(&mut self, emit_to: EmitTo) -> Result<(), Refusal> {
+        self.forget_groups(emit_to)
     }
 }

@@ -13,7 +13,7 @@ ghost use Rattle.columnar.specs.Memory.{stored};
 ghost use Rattle.columnar.specs.Views.{ticks};
 ghost use Rattle.groups.specs.Emits.{countOf};
 ghost use Rattle.groups.specs.Limits.{cap};
-ghost use Rattle.groups.specs.Tally.{fresh, unless, update-refusal, updated, evaluate-refusal, answer, removed};
+ghost use Rattle.groups.specs.Tally.{fresh, unless, update-refusal, updated, merge-refusal, merged, evaluate-refusal, answer, forget-refusal, removed};
 ghost use Rattle.operations.specs.Primitive.{primitive};
 ghost use Rattle.walk.specs.Visits.{visits, toldAll};
 ghost use Rattle.prim_op.specs.Means.{marksOf, valuesOf, meaningOf, Sound};
@@ -180,6 +180,32 @@ impl<'m, T: Copy, O: Operation<T>, L> OpGroupsAccumulator<'m, T, O, L> {
         ensures written { λ r. ⌜ B·Buffers .memory (now (out .exit)) ≡ unless (errPart r) (B·Buffers .memory (now (out .entry))) (stored (B·Buffers .masks) (B·Buffers .figures) (answer (primitive (O·Operation .start) (O·Operation .rule)) (meaningOf (now (self .entry))) «emit_to») (B·Buffers .memory (now (out .entry)))) ⌝ }
     {
         self.show(emit_to, out)?;
+        self.remove(emit_to);
+        Ok(())
+    }
+
+    /// Joins each state row's credit to its group's: a state row is a row, and no filter is given.
+    pub(crate) fn merge_rows<C: Accumulate<T>>(&mut self, values: &C, group_indices: &[usize], total: usize) -> Result<(), Refusal>
+        requires { ⌜ Sound (O·Operation .start) (now self) ⌝ }
+        ensures stays { λ r. ⌜ Sound (O·Operation .start) (now (self .exit)) ⌝ }
+        ensures answer { λ r. ⌜ errPart r ≡ merge-refusal (primitive (O·Operation .start) (O·Operation .rule)) (meaningOf (now (self .entry))) (C·Rows .cells (now (values .entry))) (now («group_indices» .entry)) total ⌝ }
+        ensures after { λ r. ⌜ meaningOf (now (self .exit)) ≡ unless (errPart r) (meaningOf (now (self .entry))) (merged (primitive (O·Operation .start) (O·Operation .rule)) (meaningOf (now (self .entry))) (C·Rows .cells (now (values .entry))) (now («group_indices» .entry)) total) ⌝ }
+    {
+        let none = Filter::none();
+        self.update_rows(values, group_indices, &none, total)
+    }
+
+    /// Removes the groups asked for; or a refusal, and nothing changed.
+    pub(crate) fn forget_groups(&mut self, emit_to: EmitTo) -> Result<(), Refusal>
+        requires { ⌜ Sound (O·Operation .start) (now self) ⌝ }
+        ensures stays { λ r. ⌜ Sound (O·Operation .start) (now (self .exit)) ⌝ }
+        ensures answer { λ r. ⌜ errPart r ≡ forget-refusal (primitive (O·Operation .start) (O·Operation .rule)) (meaningOf (now (self .entry))) «emit_to» ⌝ }
+        ensures after { λ r. ⌜ meaningOf (now (self .exit)) ≡ unless (errPart r) (meaningOf (now (self .entry))) (removed (primitive (O·Operation .start) (O·Operation .rule)) (meaningOf (now (self .entry))) «emit_to») ⌝ }
+    {
+        let kept = self.null_state.kept;
+        if emit_to.count(kept) > kept {
+            return Err(Refusal::TooManyGroups);
+        }
         self.remove(emit_to);
         Ok(())
     }

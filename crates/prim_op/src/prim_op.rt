@@ -26,7 +26,9 @@ pub impl<'a, 'm, T: Copy + 'a, O: Operation<T>> GroupsAccumulator<'a> for OpGrou
     type State = T;
     type Out = T;
     type Values = PrimitiveColumn<'a, T>;
+    type States = PrimitiveColumn<'a, T>;
     type Answers = PrimitiveBuffers<'a, T>;
+    type StateBuffers = PrimitiveBuffers<'a, T>;
 
     ghost kind = { primitive (O·Operation .start) (O·Operation .rule) };
 
@@ -40,7 +42,19 @@ pub impl<'a, 'm, T: Copy + 'a, O: Operation<T>> GroupsAccumulator<'a> for OpGrou
         self.update_rows(values, group_indices, opt_filter, total_num_groups)
     }
 
+    fn merge_batch(&mut self, values: &PrimitiveColumn<'a, T>, group_indices: &[usize], total_num_groups: usize) -> Result<(), Refusal> {
+        self.merge_rows(values, group_indices, total_num_groups)
+    }
+
     fn evaluate(&mut self, emit_to: EmitTo, out: &mut PrimitiveBuffers<'a, T>) -> Result<(), Refusal> {
         self.emit(emit_to, out)
+    }
+
+    fn peek(&self, emit_to: EmitTo, out: &mut PrimitiveBuffers<'a, T>) -> Result<(), Refusal> {
+        self.show(emit_to, out)
+    }
+
+    fn forget(&mut self, emit_to: EmitTo) -> Result<(), Refusal> {
+        self.forget_groups(emit_to)
     }
 }
