@@ -1,10 +1,10 @@
 -- A loop that writes one list over the front of another.
-use mathlib.Core.Path.{_≡_, refl, sym, ap, _∙_}
+use mathlib.Core.Path.{_≡_, sym, ap, _∙_}
 use mathlib.Core.List.{List, [], _∷_, _++_}
 use Prim.Native.Nat.{ℕ, _+_, _-_, _<_, _≤_}
 use native.Mathlib.Omega.{arith}
 use lib.ListN.{length, getD, set, take, drop}
-use Rattle.std.proofs.shelf.Lists.{append-assoc, length-take-le, length-append, length-drop, set-append-right, drop-more, take-more, take-all, take-at, getD-append-left}
+use Rattle.std.proofs.shelf.Lists.{append-assoc, length-take-le, set-append-right, drop-more, take-more, take-all}
 use Rattle.columnar.specs.Memory.{front}
 
 -- the first n places of a list, over those of another
@@ -32,7 +32,3 @@ pub over-first : {X : Type 0} (xs ys now : List X) (i n : ℕ) → n ≤ length 
 over-first xs ys now i n h same e =
     let l : n ≡ length (take n xs) = sym (length-take-le n xs h) in
     e ∙ ap (overFront xs ys) same ∙ ap (λ m. take n xs ++ drop m ys) l
-
--- what is written fits where there is room, so the length stays
-pub length-front : {X : Type 0} (xs ys : List X) → length xs ≤ length ys → length (front xs ys) ≡ length ys
-length-front xs ys h = omega (arith, length-append xs (drop (length xs) ys), length-drop (length xs) ys)

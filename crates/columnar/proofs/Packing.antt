@@ -1,22 +1,23 @@
--- A byte made bit by bit: how it grows, that it stays a byte, and what its bits are.
-use mathlib.Core.Path.{_≡_, refl, sym, ap, _∙_}
+-- Packing: a byte made bit by bit, how it grows and that it stays a byte, and the bytes of a list of bits.
+use mathlib.Core.Path.{_≡_, sym, ap, _∙_}
 use mathlib.Core.Bool.{Bool, true, false, cond}
-use mathlib.Core.List.{List, [], _∷_, _++_, map}
-use mathlib.Core.Logic.{_⊎_, inl, inr, ⊎-elim}
-use Prim.Native.Nat.{ℕ, zero, suc, _+_, _-_, _*_, _/_, _%_, _^_, _<_, _≤_}
-use native.Mathlib.Nat.{add-zero, zero-add, mul-assoc, mul-comm, add-mul-div-right, add-mul-mod-self-right, pow-suc}
+use mathlib.Core.List.{List}
+use mathlib.Core.Logic.{⊎-elim}
+use Prim.Native.Nat.{ℕ, zero, suc, _+_, _-_, _*_, _%_, _^_, _<_, _≤_}
+use native.Mathlib.Nat.{add-zero, zero-add, pow-suc}
 use native.Mathlib.Numerals.{add-one}
 use native.Mathlib.Omega.{arith}
-use lib.Dec.{eqb}
-use lib.ListN.{length, getD, take}
-use lib.Pow.{pow-pos, pow-add, pow-mono}
+use lib.ListN.{length, getD, set}
+use lib.Pow.{pow-mono}
 use Rattle.std.specs.Iters.{counting}
 use Rattle.std.specs.shelf.Lists.{sumBy}
-use Rattle.std.proofs.shelf.Lists.{map-id, getD-past, getD-take, length-take-le}
-use Rattle.std.proofs.shelf.Bits.{one-shl, pow-below}
+use Rattle.std.proofs.shelf.Lists.{map-id, getD-past}
+use Rattle.std.proofs.shelf.Bits.{one-shl}
 use Rattle.std.proofs.shelf.Counted.{sumBy-map-counting-more, length-map-counting, getD-map-counting}
 use Rattle.std.proofs.shelf.Tests.{cases-lt}
+use Rattle.columnar.specs.Memory.{front}
 use Rattle.columnar.specs.Packed.{bytesFor, byteUpTo, byteAt, packed}
+use Rattle.columnar.proofs.Fronts.{overFront, over-more, over-all}
 
 pub upTo-more : (bits : List Bool) (k m : ℕ) → byteUpTo bits k (m + 1) ≡ byteUpTo bits k m + cond (getD bits (8 * k + m) false) (2 ^ m) 0
 upTo-more bits k m =
@@ -51,42 +52,38 @@ upTo-past bits k m (suc d) h =
     ∙ upTo-past bits k m d h
 
 -- the loop over a byte's bits
-pub byte-fits : (bits : List Bool) (k i byte : ℕ) → i < 8 → byte ≡ byteUpTo bits k i → byte + 1 * 2 ^ i % 256 < 256
-byte-fits bits k i byte h e =
-    let shift : 1 * 2 ^ i % 256 ≡ 2 ^ i = one-shl i 8 h in
-    let top : 2 ^ i < 2 ^ 8 = pow-below i 8 h in
-    let next : 2 ^ suc i ≤ 2 ^ 8 = pow-mono {i = suc i} {j = 8} (omega arith) in
-    omega (arith, upTo-lt bits k i, pow-suc 2 i)
+module _ (bits : List Bool) (k i byte : ℕ) (inv : byte ≡ byteUpTo bits k i) where
+  pub byte-fits : i < 8 → byte + 1 * 2 ^ i % 256 < 256
+  byte-fits h =
+      let shift : 1 * 2 ^ i % 256 ≡ 2 ^ i = one-shl i 8 h in
+      let next : 2 ^ suc i ≤ 2 ^ 8 = pow-mono {i = suc i} {j = 8} (omega arith) in
+      omega (arith, upTo-lt bits k i, pow-suc 2 i)
 
-pub byte-yes : (bits : List Bool) (n k i byte : ℕ) → i < 8 → 8 * k + i < n → getD bits (8 * k + i) false ≡ true → byte ≡ byteUpTo (take n bits) k i → byte + 1 * 2 ^ i % 256 ≡ byteUpTo (take n bits) k (i + 1)
-byte-yes bits n k i byte h l is e =
-    let shift : 1 * 2 ^ i % 256 ≡ 2 ^ i = one-shl i 8 h in
-    omega (arith, upTo-yes (take n bits) k i (getD-take n bits (8 * k + i) false l ∙ is))
+  pub byte-yes : i < 8 → getD bits (8 * k + i) false ≡ true → byte + 1 * 2 ^ i % 256 ≡ byteUpTo bits k (i + 1)
+  byte-yes h is = let shift : 1 * 2 ^ i % 256 ≡ 2 ^ i = one-shl i 8 h in omega (arith, upTo-yes bits k i is)
 
-pub byte-no : (bits : List Bool) (n k i byte : ℕ) → 8 * k + i < n → getD bits (8 * k + i) false ≡ false → byte ≡ byteUpTo (take n bits) k i → byte ≡ byteUpTo (take n bits) k (i + 1)
-byte-no bits n k i byte l is e = e ∙ sym (upTo-no (take n bits) k i (getD-take n bits (8 * k + i) false l ∙ is))
+  pub byte-no : getD bits (8 * k + i) false ≡ false → byte ≡ byteUpTo bits k (i + 1)
+  byte-no is = inv ∙ sym (upTo-no bits k i is)
 
-pub byte-all : (bits : List Bool) (n k i byte : ℕ) → n ≤ length bits → i ≤ 8 → (i < 8 → n ≤ 8 * k + i) → byte ≡ byteUpTo (take n bits) k i → byte ≡ byteAt (take n bits) k
-byte-all bits n k i byte h l last e =
-    ⊎-elim
-    (λ below.
-    let end : length (take n bits) ≤ 8 * k + i = omega (arith, length-take-le n bits h, last below) in
-    let whole : i + (8 - i) ≡ 8 = omega arith in
-    e ∙ sym (upTo-past (take n bits) k i (8 - i) end) ∙ ap (byteUpTo (take n bits) k) whole)
-    (λ above. let whole : i ≡ 8 = omega arith in e ∙ ap (byteUpTo (take n bits) k) whole)
-    (cases-lt i 8)
+  pub byte-all : i ≤ 8 → (i < 8 → length bits ≤ 8 * k + i) → byte ≡ byteAt bits k
+  byte-all l last =
+      ⊎-elim
+      (λ below.
+      let whole : i + (8 - i) ≡ 8 = omega arith in
+      inv ∙ sym (upTo-past bits k i (8 - i) (last below)) ∙ ap (byteUpTo bits k) whole)
+      (λ above. let whole : i ≡ 8 = omega arith in inv ∙ ap (byteUpTo bits k) whole)
+      (cases-lt i 8)
 
-pub length-packed : (bits : List Bool) → length (packed bits) ≡ bytesFor (length bits)
-length-packed bits = length-map-counting (byteAt bits) 0 (bytesFor (length bits))
+-- the loop over the bytes of n bits
+pub length-packed : (bits : List Bool) (n : ℕ) → length bits ≡ n → length (packed bits) ≡ bytesFor n
+length-packed bits n e = length-map-counting (byteAt bits) 0 (bytesFor (length bits)) ∙ ap bytesFor e
 
-pub getD-packed : (bits : List Bool) (k d : ℕ) → k < bytesFor (length bits) → getD (packed bits) k d ≡ byteAt bits k
-getD-packed bits k d h = getD-map-counting (byteAt bits) 0 (bytesFor (length bits)) k k d h (zero-add k)
+pub getD-packed : (bits : List Bool) (n k d : ℕ) → length bits ≡ n → k < bytesFor n → getD (packed bits) k d ≡ byteAt bits k
+getD-packed bits n k d e h = getD-map-counting (byteAt bits) 0 (bytesFor (length bits)) k k d (rw e h) (zero-add k)
 
--- of the first n bits
-pub length-packed-first : (bits : List Bool) (n : ℕ) → n ≤ length bits → length (packed (take n bits)) ≡ bytesFor n
-length-packed-first bits n h = length-packed (take n bits) ∙ ap bytesFor (length-take-le n bits h)
+pub byte-more : (bits : List Bool) (old out : List ℕ) (n k b : ℕ) → length bits ≡ n → k < bytesFor n → bytesFor n ≤ length old → b ≡ byteAt bits k → out ≡ overFront (packed bits) old k → set out k b ≡ overFront (packed bits) old (k + 1)
+byte-more bits old out n k b e h room is inv =
+    over-more (packed bits) old out k b (omega (arith, length-packed bits n e)) (omega arith) (is ∙ sym (getD-packed bits n k b e h)) inv
 
-pub getD-packed-first : (bits : List Bool) (n k b : ℕ) → n ≤ length bits → k < bytesFor n → b ≡ byteAt (take n bits) k → b ≡ getD (packed (take n bits)) k b
-getD-packed-first bits n k b h l e =
-    let within : k < bytesFor (length (take n bits)) = rw (length-take-le n bits h) l in
-    e ∙ sym (getD-packed (take n bits) k b within)
+pub bytes-all : (bits : List Bool) (old out : List ℕ) (n k : ℕ) → length bits ≡ n → k ≡ bytesFor n → out ≡ overFront (packed bits) old k → out ≡ front (packed bits) old
+bytes-all bits old out n k e end inv = over-all (packed bits) old out k (end ∙ sym (length-packed bits n e)) inv

@@ -9,6 +9,8 @@
 --     nulls cs           how many rows are null
 --     Ticks              the rows of a filter that is given, each a cell of a boolean; none where no filter is given
 --     passes ts n        which of n rows a filter lets through: those for which it holds a valid yes
+--     admittedRows ps cs what is seen of each row that is let through, and null for every other
+--     keptRows f ps cs   these rows as a column with a mask, every null of them over the filler f
 use mathlib.Core.Bool.{Bool, true, false, cond, not, _&&_}
 use mathlib.Core.List.{List, [], _∷_, map}
 use Prim.Native.Nat.{ℕ, zero, suc}
@@ -64,3 +66,11 @@ allPass (suc n) = true ∷ allPass n
 abbrev pub passes : Ticks → ℕ → List Bool
 passes None n = allPass n
 passes (Some ts) n = ticked ts n
+
+abbrev pub admittedRows : {X : Type 0} → List Bool → List (Cell X) → List (Option X)
+admittedRows [] cs = []
+admittedRows (p ∷ ps) [] = []
+admittedRows (p ∷ ps) (c ∷ cs) = cond p (seen c) None ∷ admittedRows ps cs
+
+abbrev pub keptRows : {X : Type 0} → X → List Bool → List (Cell X) → Column X
+keptRows filler ps cs = handed true filler (admittedRows ps cs)

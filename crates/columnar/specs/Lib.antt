@@ -5,3 +5,4 @@ pub mod Lists
 pub mod Memory
 pub mod Refusals
 pub mod Views
+pub mod ReadBack

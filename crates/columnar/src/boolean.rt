@@ -16,6 +16,7 @@ use crate::bits::count_nulls;
 use crate::bits::valid;
 use crate::mask::Mask;
 use crate::refusal::Refusal;
+use crate::rows::FlatRows;
 use crate::rows::Rows;
 
 /// Packed booleans, lent, with the optional mask, read from bit `from` on, that says which of them are valid.
@@ -90,10 +91,7 @@ impl<'a> BooleanColumn<'a> {
         if j >= self.len {
             return None;
         }
-        if valid(self.mask, self.from, j) {
-            return Some(Some(bit(self.bytes, self.start, j)));
-        }
-        Some(None)
+        Some(self.read(j))
     }
 }
 
@@ -106,5 +104,14 @@ pub impl<'a> Rows<bool> for BooleanColumn<'a> as BooleanColumnRows {
 
     fn null_count(&self) -> usize {
         self.nulls
+    }
+}
+
+pub impl<'a> FlatRows<bool> for BooleanColumn<'a> as BooleanColumnFlat {
+    fn read(&self, j: usize) -> Option<bool> {
+        if valid(self.mask, self.from, j) {
+            return Some(bit(self.bytes, self.start, j));
+        }
+        None
     }
 }

@@ -15,6 +15,7 @@ use crate::bits::count_nulls;
 use crate::bits::valid;
 use crate::mask::Mask;
 use crate::refusal::Refusal;
+use crate::rows::FlatRows;
 use crate::rows::Rows;
 
 /// Values, lent, with the optional mask that says which of them are valid.
@@ -74,10 +75,7 @@ impl<'a, T: Copy> PrimitiveColumn<'a, T> {
         if j >= values.len() {
             return None;
         }
-        if valid(self.mask, self.start, j) {
-            return Some(Some(values[j]));
-        }
-        Some(None)
+        Some(self.read(j))
     }
 }
 
@@ -91,5 +89,15 @@ pub impl<'a, T: Copy> Rows<T> for PrimitiveColumn<'a, T> as PrimitiveColumnRows 
 
     fn null_count(&self) -> usize {
         self.nulls
+    }
+}
+
+pub impl<'a, T: Copy> FlatRows<T> for PrimitiveColumn<'a, T> as PrimitiveColumnFlat {
+    fn read(&self, j: usize) -> Option<T> {
+        let values = self.values;
+        if valid(self.mask, self.start, j) {
+            return Some(values[j]);
+        }
+        None
     }
 }

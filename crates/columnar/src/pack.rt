@@ -3,6 +3,8 @@ ghost use Prim.Native.Nat.{_*_, _≤_, _<_};
 ghost use lib.ListN.{length, take};
 ghost use Rattle.columnar.specs.Packed.{bytesFor, byteAt, packed};
 ghost use Rattle.columnar.specs.Memory.{front};
+ghost use Rattle.columnar.specs.ReadBack.{Written-reads-back};
+use crate::source::Source;
 
 /// How many bytes n bits take, by parts, since n + 7 need not fit.
 pub fn bytes_for(n: usize) -> usize
@@ -12,16 +14,16 @@ pub fn bytes_for(n: usize) -> usize
 }
 
 /// Byte k of the first n bits, with zeros after the last of them.
-fn packed_byte(bits: &[bool], n: usize, k: usize) -> u8
-    requires within { ⌜ n ≤ length (now bits) ⌝ }
+fn packed_byte<S: Source<bool>>(bits: &S, n: usize, k: usize) -> u8
+    requires within { ⌜ n ≤ length (S·Source .items (now bits)) ⌝ }
     requires some { ⌜ 8 * k < n ⌝ }
-    ensures { λ r. ⌜ r ≡ byteAt (take n (now (bits .entry))) k ⌝ }
+    ensures { λ r. ⌜ r ≡ byteAt (take n (S·Source .items (now (bits .entry)))) k ⌝ }
 {
     let from = 8 * k;
-    let width = if n - from < 8 { n - from } else { 8 };
+    let width = (n - from).min(8);
     let mut byte: u8 = 0;
     for i in 0..width {
-        if bits[from + i] {
+        if bits.get(from + i) {
             byte += 1 << i;
         }
     }
@@ -29,12 +31,19 @@ fn packed_byte(bits: &[bool], n: usize, k: usize) -> u8
 }
 
 /// Packs the first n bits into the front of `out`, with zeros after the last of them; the bytes past that stay.
-pub fn write_bits(out: &mut [u8], bits: &[bool], n: usize)
-    requires within { ⌜ n ≤ length (now bits) ⌝ }
+pub fn write_bits<S: Source<bool>>(out: &mut [u8], bits: &S, n: usize)
+    requires within { ⌜ n ≤ length (S·Source .items (now bits)) ⌝ }
     requires room { ⌜ bytesFor n ≤ length (now out) ⌝ }
-    ensures { λ _. ⌜ now (out .exit) ≡ front (packed (take n (now (bits .entry)))) (now (out .entry)) ⌝ }
+    ensures { λ _. ⌜ now (out .exit) ≡ front (packed (take n (S·Source .items (now (bits .entry))))) (now (out .entry)) ⌝ }
 {
     for k in 0..bytes_for(n) {
         out[k] = packed_byte(bits, n, k);
     }
+}
+
+/// States that what is written reads back: bits once packed, and columns laid down in buffers.
+pub fn written_reads_back<T>() -> u8
+    ensures { λ _. ⌜ Written-reads-back T ⌝ }
+{
+    0
 }

@@ -1,3 +1,8 @@
+ghost use mathlib.Core.Path.{_≡_};
+ghost use Prim.Native.Nat.{min};
+ghost use lib.ListN.{length};
+ghost use Rattle.groups.specs.Limits.{cap};
+ghost use Rattle.groups.specs.Tally.{fresh};
 ghost use Rattle.operations.specs.Primitive.{primitive};
 ghost use Rattle.operations.proofs.Credits.{primitive-laws};
 ghost use Rattle.prim_op.specs.Means.{meaningOf, Sound};
@@ -20,6 +25,17 @@ pub struct Packed;
 
 /// The accumulator of an operation over packed boolean columns.
 pub type BooleanGroupsAccumulator<'m, O> = OpGroupsAccumulator<'m, bool, O, Packed>;
+
+impl<'m, O: Operation<bool>> OpGroupsAccumulator<'m, bool, O, Packed> {
+    /// An accumulator of no groups. Its limits are the least of the number asked for, the cap and, for groups, the places
+    /// given.
+    pub fn new(values: &'m mut [bool], marks: &'m mut [bool], op: O, max_rows: usize, max_groups: usize) -> OpGroupsAccumulator<'m, bool, O, Packed>
+        ensures sound { λ r. ⌜ Sound (O·Operation .start) r ⌝ }
+        ensures fresh { λ r. ⌜ meaningOf r ≡ fresh (primitive (O·Operation .start) (O·Operation .rule)) (record { rows = min «max_rows» cap; groups = min (min «max_groups» cap) (min (length (now (values .entry))) (length (now (marks .entry)))); pairs = 0 }) ⌝ }
+    {
+        OpGroupsAccumulator::over(values, marks, op, Packed, max_rows, max_groups)
+    }
+}
 
 pub impl<'a, 'm, O: Operation<bool> + 'a> GroupsAccumulator<'a> for OpGroupsAccumulator<'m, bool, O, Packed> as BooleanGroups {
     type Value = bool;

@@ -47,7 +47,7 @@ pub struct OpGroupsAccumulator<'m, T, O, L> {
 
 impl<'m, T: Copy, O: Operation<T>, L> OpGroupsAccumulator<'m, T, O, L> {
     /// An accumulator of no groups over lent memory, with a place and a mark for each group that it may keep.
-    pub fn new(values: &'m mut [T], marks: &'m mut [bool], op: O, layout: L, max_rows: usize, max_groups: usize) -> OpGroupsAccumulator<'m, T, O, L>
+    pub(crate) fn over(values: &'m mut [T], marks: &'m mut [bool], op: O, layout: L, max_rows: usize, max_groups: usize) -> OpGroupsAccumulator<'m, T, O, L>
         ensures sound { λ r. ⌜ Sound (O·Operation .start) r ⌝ }
         ensures fresh { λ r. ⌜ meaningOf r ≡ fresh (primitive (O·Operation .start) (O·Operation .rule)) (record { rows = min «max_rows» cap; groups = min (min «max_groups» cap) (min (length (now (values .entry))) (length (now (marks .entry)))); pairs = 0 }) ⌝ }
     {

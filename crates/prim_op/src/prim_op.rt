@@ -1,3 +1,8 @@
+ghost use mathlib.Core.Path.{_≡_};
+ghost use Prim.Native.Nat.{min};
+ghost use lib.ListN.{length};
+ghost use Rattle.groups.specs.Limits.{cap};
+ghost use Rattle.groups.specs.Tally.{fresh};
 ghost use Rattle.operations.specs.Primitive.{primitive};
 ghost use Rattle.operations.proofs.Credits.{primitive-laws};
 ghost use Rattle.prim_op.specs.Means.{meaningOf, Sound};
@@ -20,6 +25,17 @@ pub struct Plain;
 
 /// The accumulator of an operation over primitive columns.
 pub type PrimitiveGroupsAccumulator<'m, T, O> = OpGroupsAccumulator<'m, T, O, Plain>;
+
+impl<'m, T: Copy, O: Operation<T>> OpGroupsAccumulator<'m, T, O, Plain> {
+    /// An accumulator of no groups. Its limits are the least of the number asked for, the cap and, for groups, the places
+    /// given.
+    pub fn new(values: &'m mut [T], marks: &'m mut [bool], op: O, max_rows: usize, max_groups: usize) -> OpGroupsAccumulator<'m, T, O, Plain>
+        ensures sound { λ r. ⌜ Sound (O·Operation .start) r ⌝ }
+        ensures fresh { λ r. ⌜ meaningOf r ≡ fresh (primitive (O·Operation .start) (O·Operation .rule)) (record { rows = min «max_rows» cap; groups = min (min «max_groups» cap) (min (length (now (values .entry))) (length (now (marks .entry)))); pairs = 0 }) ⌝ }
+    {
+        OpGroupsAccumulator::over(values, marks, op, Plain, max_rows, max_groups)
+    }
+}
 
 pub impl<'a, 'm, T: Copy + 'a, O: Operation<T>> GroupsAccumulator<'a> for OpGroupsAccumulator<'m, T, O, Plain> as PrimitiveGroups {
     type Value = T;
