@@ -3,7 +3,7 @@ ghost use Rattle.std.specs.Results.{errPart};
 ghost use Rattle.columnar.specs.Views.{ticks};
 ghost use Rattle.columnar.specs.Memory.{stored};
 ghost use Rattle.groups.specs.Kind.{Kind, Laws};
-ghost use Rattle.groups.specs.Tally.{Means, unless, update-refusal, updated, merge-refusal, merged, evaluate-refusal, answer, peek-refusal, peeked, forget-refusal, removed};
+ghost use Rattle.groups.specs.Tally.{Means, unless, update-refusal, updated, merge-refusal, merged, evaluate-refusal, answer, peek-refusal, peeked, forget-refusal, removed, convert-refusal, converted};
 use crate::emit::EmitTo;
 use columnar::buffers::Buffers;
 use columnar::filter::Filter;
@@ -46,6 +46,12 @@ pub trait GroupsAccumulator<'a> {
         ensures stays { λ r. ⌜ sound (now (self .exit)) ⌝ }
         ensures answer { λ r. ⌜ errPart r ≡ merge-refusal kind (meaning (now (self .entry))) (States·Rows .cells (now (values .entry))) (now («group_indices» .entry)) «total_num_groups» ⌝ }
         ensures after { λ r. ⌜ meaning (now (self .exit)) ≡ unless (errPart r) (meaning (now (self .entry))) (merged kind (meaning (now (self .entry))) (States·Rows .cells (now (values .entry))) (now («group_indices» .entry)) «total_num_groups») ⌝ };
+
+    /// Writes each row's credit as a state row, and changes nothing; a row that is not let through gives the empty credit.
+    fn convert_to_state(&self, values: &Self::Values, opt_filter: &Filter<'_>, out: &mut Self::StateBuffers) -> Result<(), Refusal>
+        requires sound { ⌜ sound (now self) ⌝ }
+        ensures answer { λ r. ⌜ errPart r ≡ convert-refusal kind (StateBuffers·Buffers .layout) (meaning (now (self .entry))) (Values·Rows .cells (now (values .entry))) (ticks (now («opt_filter» .entry))) (StateBuffers·Buffers .room (StateBuffers·Buffers .memory (now (out .entry)))) ⌝ }
+        ensures written { λ r. ⌜ StateBuffers·Buffers .memory (now (out .exit)) ≡ unless (errPart r) (StateBuffers·Buffers .memory (now (out .entry))) (stored (StateBuffers·Buffers .masks) (StateBuffers·Buffers .figures) (converted kind (Values·Rows .cells (now (values .entry))) (ticks (now («opt_filter» .entry)))) (StateBuffers·Buffers .memory (now (out .entry)))) ⌝ };
 
     /// Shows the groups asked for, and removes them.
     fn evaluate(&mut self, emit_to: EmitTo, out: &mut Self::Answers) -> Result<(), Refusal>

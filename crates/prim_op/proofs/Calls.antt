@@ -48,7 +48,7 @@ visits-below {V} n (g ∷ gs) (r ∷ rows) (p ∷ ps) h =
     elim (r .valid && p) as (λ b. All (λ (v : ℕ × V). v .0 < n) (cond b ((g, r .figure) ∷ visits gs rows ps) (visits gs rows ps))) [ true ↦ (h .0, rest) | false ↦ rest ]
 
 -- ── the length of a filter ───────────────────────────────────────────────
-differs-is : (f : Ticks) (n : ℕ) → differs f n ≡ not (eqb (valueOr (mapped length f) n) n)
+pub differs-is : (f : Ticks) (n : ℕ) → differs f n ≡ not (eqb (valueOr (mapped length f) n) n)
 differs-is None n = ap not (sym (eq-eqb n n refl))
 differs-is (Some ts) n = refl
 

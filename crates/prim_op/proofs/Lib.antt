@@ -3,3 +3,4 @@ pub mod Updates
 pub mod Calls
 pub mod Emitting
 pub mod Merging
+pub mod Converting

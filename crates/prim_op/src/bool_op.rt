@@ -8,6 +8,7 @@ ghost use Rattle.operations.proofs.Credits.{primitive-laws};
 ghost use Rattle.prim_op.specs.Means.{meaningOf, Sound};
 use crate::op_groups::OpGroupsAccumulator;
 use columnar::boolean::BooleanColumn;
+use columnar::boolean::BooleanColumnFlat;
 use columnar::boolean::BooleanColumnRows;
 use columnar::buffers::BooleanBuffers;
 use columnar::buffers::BooleanBuffersBuffers;
@@ -60,6 +61,10 @@ pub impl<'a, 'm, O: Operation<bool> + 'a> GroupsAccumulator<'a> for OpGroupsAccu
 
     fn merge_batch(&mut self, values: &BooleanColumn<'a>, group_indices: &[usize], total_num_groups: usize) -> Result<(), Refusal> {
         self.merge_rows(values, group_indices, total_num_groups)
+    }
+
+    fn convert_to_state(&self, values: &BooleanColumn<'a>, opt_filter: &Filter<'_>, out: &mut BooleanBuffers<'a>) -> Result<(), Refusal> {
+        self.convert_rows(values, opt_filter, out)
     }
 
     fn evaluate(&mut self, emit_to: EmitTo, out: &mut BooleanBuffers<'a>) -> Result<(), Refusal> {

@@ -13,12 +13,13 @@ ghost use Rattle.columnar.specs.Memory.{stored};
 ghost use Rattle.columnar.specs.Views.{ticks};
 ghost use Rattle.groups.specs.Emits.{countOf};
 ghost use Rattle.groups.specs.Limits.{cap};
-ghost use Rattle.groups.specs.Tally.{fresh, unless, update-refusal, updated, merge-refusal, merged, evaluate-refusal, answer, forget-refusal, removed};
+ghost use Rattle.groups.specs.Tally.{fresh, unless, update-refusal, updated, merge-refusal, merged, evaluate-refusal, answer, forget-refusal, removed, convert-refusal, converted};
 ghost use Rattle.operations.specs.Primitive.{primitive};
 ghost use Rattle.walk.specs.Visits.{visits, toldAll};
 ghost use Rattle.prim_op.specs.Means.{marksOf, valuesOf, meaningOf, Sound};
 use columnar::filter::Filter;
 use columnar::refusal::Refusal;
+use columnar::rows::FlatRows;
 use columnar::rows::Rows;
 use columnar::buffers::Buffers;
 use columnar::buffers::FlatBuffers;
@@ -207,6 +208,26 @@ impl<'m, T: Copy, O: Operation<T>, L> OpGroupsAccumulator<'m, T, O, L> {
             return Err(Refusal::TooManyGroups);
         }
         self.remove(emit_to);
+        Ok(())
+    }
+
+    /// Writes each row as a state row, null over the start value where it is null or not let through; or a refusal, and
+    /// nothing written.
+    pub(crate) fn convert_rows<C: FlatRows<T>, B: FlatBuffers<T>>(&self, values: &C, opt_filter: &Filter<'_>, out: &mut B) -> Result<(), Refusal>
+        ensures answer { λ r. ⌜ errPart r ≡ convert-refusal (primitive (O·Operation .start) (O·Operation .rule)) (B·Buffers .layout) (meaningOf (now (self .entry))) (C·Rows .cells (now (values .entry))) (ticks (now («opt_filter» .entry))) (B·Buffers .room (B·Buffers .memory (now (out .entry)))) ⌝ }
+        ensures written { λ r. ⌜ B·Buffers .memory (now (out .exit)) ≡ unless (errPart r) (B·Buffers .memory (now (out .entry))) (stored (B·Buffers .masks) (B·Buffers .figures) (converted (primitive (O·Operation .start) (O·Operation .rule)) (C·Rows .cells (now (values .entry))) (ticks (now («opt_filter» .entry)))) (B·Buffers .memory (now (out .entry)))) ⌝ }
+    {
+        let rows = values.len();
+        if rows > self.most_rows {
+            return Err(Refusal::TooManyRows);
+        }
+        if opt_filter.ticked().unwrap_or(rows) != rows {
+            return Err(Refusal::FilterLength);
+        }
+        if !out.fits(rows, true) {
+            return Err(Refusal::ShortBuffer);
+        }
+        out.put_rows(values, opt_filter, O::starting_value());
         Ok(())
     }
 }

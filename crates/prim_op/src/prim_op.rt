@@ -11,6 +11,7 @@ use columnar::buffers::PrimitiveBuffers;
 use columnar::buffers::PrimitiveBuffersBuffers;
 use columnar::buffers::PrimitiveBuffersFlat;
 use columnar::column::PrimitiveColumn;
+use columnar::column::PrimitiveColumnFlat;
 use columnar::column::PrimitiveColumnRows;
 use columnar::filter::Filter;
 use columnar::refusal::Refusal;
@@ -60,6 +61,10 @@ pub impl<'a, 'm, T: Copy + 'a, O: Operation<T>> GroupsAccumulator<'a> for OpGrou
 
     fn merge_batch(&mut self, values: &PrimitiveColumn<'a, T>, group_indices: &[usize], total_num_groups: usize) -> Result<(), Refusal> {
         self.merge_rows(values, group_indices, total_num_groups)
+    }
+
+    fn convert_to_state(&self, values: &PrimitiveColumn<'a, T>, opt_filter: &Filter<'_>, out: &mut PrimitiveBuffers<'a, T>) -> Result<(), Refusal> {
+        self.convert_rows(values, opt_filter, out)
     }
 
     fn evaluate(&mut self, emit_to: EmitTo, out: &mut PrimitiveBuffers<'a, T>) -> Result<(), Refusal> {
