@@ -21,7 +21,7 @@ use Rattle.columnar.specs.declared.refusal.Refusal.the-variants.{BitsOutOfBytes
 use Rattle.columnar.specs.Packed.{unpacked, packed}
 use Rattle.columnar.specs.Cells.{Cell, Column, Ticks, cell}
 use Rattle.columnar.specs.Lists.{listCells}
-use Rattle.columnar.specs.Memory.{Room, valuesLayout}
+use Rattle.buffers.specs.Memory.{Room, valuesLayout}
 use Rattle.columnar.specs.Refusals.{numberOf, bitsRefusal, offsetsRefusal}
 use Rattle.groups.specs.declared.emit.EmitTo.{EmitTo}
 use Rattle.groups.specs.declared.emit.EmitTo.the-variants.{All, First}

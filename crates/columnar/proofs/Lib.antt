@@ -1,9 +1,3 @@
-pub mod AdmittedRows
 pub mod CellRows
 pub mod FilterRows
-pub mod Fronts
 pub mod Ordered
-pub mod Packing
-pub mod Passed
-pub mod Reading
-pub mod Rooms

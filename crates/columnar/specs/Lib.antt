@@ -2,7 +2,5 @@ pub mod Packed
 pub mod Cells
 pub mod Rows
 pub mod Lists
-pub mod Memory
 pub mod Refusals
 pub mod Views
-pub mod ReadBack

@@ -1,13 +1,8 @@
-pub mod admitted;
 pub mod bits;
 pub mod boolean;
-pub mod buffers;
 pub mod column;
 pub mod filter;
 pub mod list;
 pub mod mask;
-pub mod nulls;
-pub mod pack;
 pub mod refusal;
 pub mod rows;
-pub mod source;

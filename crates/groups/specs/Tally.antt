@@ -20,7 +20,7 @@ use Rattle.std.specs.declared.option.Option.the-variants.{Some, None}
 use Rattle.columnar.specs.declared.refusal.Refusal.{Refusal}
 use Rattle.columnar.specs.declared.refusal.Refusal.the-variants.{TooManyRows, IndexCount, FilterLength, TotalBelowKept, TotalAboveLimit, IndexAboveTotal, GroupNotNamed, TooManyPairs, TooManyGroups, ShortBuffer}
 use Rattle.columnar.specs.Cells.{Cell, Column, Ticks, seen, handed, passes, nulls}
-use Rattle.columnar.specs.Memory.{Layout, Room, short}
+use Rattle.buffers.specs.Memory.{Layout, Room, short}
 use Rattle.groups.specs.declared.emit.EmitTo.{EmitTo}
 use Rattle.groups.specs.Lists.{deal, zip, allBelow, namesFrom}
 use Rattle.groups.specs.Emits.{taken, others, tooMany, resets}

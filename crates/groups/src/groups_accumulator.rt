@@ -1,11 +1,11 @@
 ghost use mathlib.Core.Path.{_≡_};
 ghost use Rattle.std.specs.Results.{errPart};
 ghost use Rattle.columnar.specs.Views.{ticks};
-ghost use Rattle.columnar.specs.Memory.{stored};
+ghost use Rattle.buffers.specs.Memory.{stored};
 ghost use Rattle.groups.specs.Kind.{Kind, Laws};
 ghost use Rattle.groups.specs.Tally.{Means, unless, update-refusal, updated, merge-refusal, merged, evaluate-refusal, answer, peek-refusal, peeked, forget-refusal, removed, convert-refusal, converted};
 use crate::emit::EmitTo;
-use columnar::buffers::Buffers;
+use buffers::buffers::Buffers;
 use columnar::filter::Filter;
 use columnar::refusal::Refusal;
 use columnar::rows::Rows;

@@ -2,8 +2,8 @@
 use columnar::column::PrimitiveColumn;
 use columnar::filter::Filter;
 use columnar::mask::Mask;
-use columnar::pack::bytes_for;
-use columnar::pack::write_bits;
+use buffers::pack::bytes_for;
+use buffers::pack::write_bits;
 use columnar::refusal::Refusal;
 use std::alloc::AllocError;
 use std::alloc::Global;

@@ -12,8 +12,8 @@ use Rattle.std.proofs.shelf.Tests.{cond-false, le-ltb, eq-eqb}
 use Rattle.columnar.specs.declared.refusal.Refusal.{Refusal}
 use Rattle.columnar.specs.declared.refusal.Refusal.the-variants.{TooManyRows, FilterLength, ShortBuffer}
 use Rattle.columnar.specs.Cells.{Cell, Ticks, seen, over, handed, passes, admittedRows, keptRows}
-use Rattle.columnar.specs.Memory.{Shaped}
-use Rattle.columnar.proofs.AdmittedRows.{length-kept}
+use Rattle.buffers.specs.Memory.{Shaped}
+use Rattle.buffers.proofs.AdmittedRows.{length-kept}
 use Rattle.groups.specs.Tally.{differs, row-credits, converted, refusal, convert-conditions}
 use Rattle.operations.specs.Primitive.{primitive}
 use Rattle.prim_op.proofs.Calls.{differs-is}

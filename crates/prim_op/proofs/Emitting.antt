@@ -12,7 +12,7 @@ use Rattle.std.specs.declared.option.Option.the-variants.{Some, None}
 use Rattle.std.proofs.shelf.Lists.{length-take-le, take-all, drop-all, take-take}
 use Rattle.std.proofs.shelf.Tests.{le-ltb, ltb-false}
 use Rattle.columnar.specs.Cells.{Column, handed, over}
-use Rattle.columnar.specs.Memory.{flatColumn}
+use Rattle.buffers.specs.Memory.{flatColumn}
 use Rattle.groups.specs.declared.emit.EmitTo.{EmitTo}
 use Rattle.groups.specs.declared.emit.EmitTo.the-variants.{All, First}
 use Rattle.groups.specs.Emits.{taken, others, countOf, tooMany, resets}

@@ -7,7 +7,7 @@ use Rattle.std.specs.declared.option.Option.the-variants.{Some, None}
 use Rattle.std.proofs.shelf.Tests.{not-true, not-false}
 use Rattle.columnar.specs.declared.refusal.Refusal.the-variants.{ShortBuffer}
 use Rattle.columnar.specs.Cells.{passes, keptRows}
-use Rattle.columnar.specs.Memory.{short, stored}
+use Rattle.buffers.specs.Memory.{short, stored}
 use Rattle.columnar.specs.Views.{ticks}
 use Rattle.groups.specs.Tally.{converted}
 use Rattle.operations.specs.Primitive.{primitive}

@@ -6,8 +6,8 @@ use native.Mathlib.Omega.{arith}
 use lib.ListN.{length, take}
 use Rattle.std.specs.Results.{errPart}
 use Rattle.std.proofs.shelf.Tests.{cond-true, cond-false, lt-ltb, le-ltb, not-true, not-false}
-use Rattle.columnar.specs.Memory.{flatColumn, short, stored}
-use Rattle.columnar.proofs.Rooms.{flat-shaped}
+use Rattle.buffers.specs.Memory.{flatColumn, short, stored}
+use Rattle.buffers.proofs.Rooms.{flat-shaped}
 use Rattle.groups.specs.Emits.{countOf}
 use Rattle.groups.specs.Tally.{answer}
 use Rattle.operations.specs.Primitive.{primitive}
