@@ -15,14 +15,12 @@ use buffers::pack::bytes_for;
 use columnar::refusal::Refusal;
 use groups::emit::EmitTo;
 use groups::groups_accumulator::GroupsAccumulator;
+use groups::limits::MOST;
 use operations::operation::Operation;
 use prim_op::prim_op::PrimitiveGroups;
 use prim_op::prim_op::PrimitiveGroupsAccumulator;
 use std::alloc::AllocError;
 use std::alloc::Global;
-
-/// The most rows of a batch that an accumulator takes.
-const ROWS: usize = 65_536;
 
 /// Memory to lend: an accumulator's, and an answer's.
 #[derive(Drop)]
@@ -187,7 +185,7 @@ pub fn lead_with<V: Clone + Copy, O: Operation<V> + Drop>(
         &mut memory.values,
         &mut memory.marks,
         op,
-        ROWS,
+        MOST,
         plan.most_groups,
     );
     let mut out = PrimitiveBuffers::new(&mut memory.shown, &mut memory.bits);
@@ -208,7 +206,7 @@ pub fn follow_with<V: Clone + Copy, O: Operation<V> + Drop>(
         &mut memory.values,
         &mut memory.marks,
         op,
-        ROWS,
+        MOST,
         plan.most_groups,
     );
     let mut out = PrimitiveBuffers::new(&mut memory.shown, &mut memory.bits);

@@ -1,11 +1,9 @@
 //! What the program is asked to do.
 use crate::fault::Fault;
+use groups::limits::MOST;
 use std::env;
 
 const ROWS: usize = 4096;
-
-/// The most groups that an accumulator keeps.
-const GROUPS: usize = 65_536;
 
 #[derive(Drop)]
 pub struct Options {
@@ -34,14 +32,14 @@ impl Options {
             return Err(Fault::Usage);
         };
         let rows = number_or(args.next(), ROWS)?;
-        let groups = number_or(args.next(), GROUPS)?;
+        let groups = number_or(args.next(), MOST)?;
         if args.next().is_some() {
             return Err(Fault::Usage);
         }
         Ok(Options {
             file,
             rows,
-            groups: groups.min(GROUPS),
+            groups: groups.min(MOST),
         })
     }
 }

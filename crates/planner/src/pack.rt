@@ -7,6 +7,7 @@ use buffers::pack::write_bits;
 use columnar::refusal::Refusal;
 use std::alloc::AllocError;
 use std::alloc::Global;
+use buffers::source::SliceSource;
 
 /// A value for each row, with a filler under a null, and the mask of the rows that are not null.
 #[derive(Drop)]
@@ -22,10 +23,10 @@ pub struct Ticks {
     pub mask: Vec<u8>,
 }
 
-fn pack_bits(heap: Global, mut bits: Vec<bool>) -> Result<Vec<u8>, AllocError> {
+fn pack_bits(heap: Global, bits: &[bool]) -> Result<Vec<u8>, AllocError> {
     let n = bits.len();
     let mut bytes = vec![in heap; 0u8; bytes_for(n)]?;
-    write_bits(bytes.as_mut_slice(), bits.as_mut_slice(), n);
+    write_bits(bytes.as_mut_slice(), &bits, n);
     Ok(bytes)
 }
 
@@ -40,7 +41,7 @@ pub fn pack_series<T: Copy>(
         values.push((*cell).unwrap_or(filler))?;
         valid.push(cell.is_some())?;
     }
-    let mask = pack_bits(heap, valid)?;
+    let mask = pack_bits(heap, valid.as_slice())?;
     Ok(Series { values, mask })
 }
 
@@ -51,7 +52,7 @@ pub fn pack_ticks(heap: Global, cells: &[Option<bool>]) -> Result<Ticks, AllocEr
         yes.push((*cell).unwrap_or(false))?;
         valid.push(cell.is_some())?;
     }
-    let yes = pack_bits(heap, yes)?;
-    let mask = pack_bits(heap, valid)?;
+    let yes = pack_bits(heap, yes.as_slice())?;
+    let mask = pack_bits(heap, valid.as_slice())?;
     Ok(Ticks { yes, mask })
 }
