@@ -8,10 +8,10 @@ ghost use Rattle.std.specs.Options.{isSome};
 ghost use Rattle.std.specs.declared.option.Option.the-variants.{Some, None};
 ghost use Rattle.columnar.specs.Cells.{over, passes, admittedRows};
 ghost use Rattle.columnar.specs.Views.{ticks};
+use crate::source::Source;
 use columnar::filter::Filter;
 use columnar::rows::FlatRows;
 use columnar::rows::Rows;
-use crate::source::Source;
 use std::marker::PhantomData;
 
 /// What is seen of row j where the filter lets it through, else null. A filter lets nothing through past its end.

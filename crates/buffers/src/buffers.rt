@@ -15,13 +15,13 @@ use crate::admitted::AdmittedFigures;
 use crate::admitted::AdmittedFiguresSource;
 use crate::admitted::AdmittedMarks;
 use crate::admitted::AdmittedMarksSource;
-use columnar::filter::Filter;
 use crate::pack::bytes_for;
 use crate::pack::write_bits;
-use columnar::rows::FlatRows;
-use columnar::rows::Rows;
 use crate::source::SliceSource;
 use crate::source::Source;
+use columnar::filter::Filter;
+use columnar::rows::FlatRows;
+use columnar::rows::Rows;
 use std::marker::PhantomData;
 
 /// Answer buffers over lent memory: what a column needs of them and leaves in them is fixed here.

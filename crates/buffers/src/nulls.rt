@@ -12,9 +12,9 @@ ghost use Rattle.columnar.specs.Cells.{ticked};
 ghost use Rattle.buffers.specs.Memory.{front};
 ghost use Rattle.columnar.specs.Packed.{bytesFor, byteAt, packed};
 ghost use Rattle.columnar.specs.Rows.{booleanCells};
+use crate::pack::bytes_for;
 use columnar::bits::passes;
 use columnar::boolean::BooleanColumn;
-use crate::pack::bytes_for;
 use columnar::refusal::Refusal;
 
 /// Byte k of the rows that a filter lets through, with zeros after the last row.

@@ -65,20 +65,22 @@ module _ (most-rows most-groups kept rows : ℕ) (gs : List ℕ) (ticked : Optio
 
   pub accepted : (o : Option Refusal) → line o ≡ None → Accepted most-rows most-groups kept rows gs ticked total × (o ≡ None)
   accepted o h =
-    let a = peel (ltb most-rows rows) _ _ h in
-    let b = peel (not (eqb rows (length gs))) _ _ (a .1) in
-    let c = peel (not (eqb (valueOr ticked rows) rows)) _ _ (b .1) in
-    let d = peel (ltb total kept) _ _ (c .1) in
-    let e = peel (ltb most-groups total) _ _ (d .1) in
-    let f = peel (not (allBelow total gs)) _ _ (e .1) in
-    (record {
-      few = ltb-false most-rows rows (a .0);
-      even = eqb-true rows (length gs) (not-false _ (b .0));
-      filter = eqb-true (valueOr ticked rows) rows (not-false _ (c .0));
-      order = ltb-false total kept (d .0);
-      room = ltb-false most-groups total (e .0);
-      below = all-below total gs (not-false _ (f .0))
-    }, f .1)
+      let a = peel (ltb most-rows rows) _ _ h in
+      let b = peel (not (eqb rows (length gs))) _ _ (a .1) in
+      let c = peel (not (eqb (valueOr ticked rows) rows)) _ _ (b .1) in
+      let d = peel (ltb total kept) _ _ (c .1) in
+      let e = peel (ltb most-groups total) _ _ (d .1) in
+      let f = peel (not (allBelow total gs)) _ _ (e .1) in (
+        record {
+          few = ltb-false most-rows rows (a .0);
+          even = eqb-true rows (length gs) (not-false _ (b .0));
+          filter = eqb-true (valueOr ticked rows) rows (not-false _ (c .0));
+          order = ltb-false total kept (d .0);
+          room = ltb-false most-groups total (e .0);
+          below = all-below total gs (not-false _ (f .0));
+        },
+        f .1,
+      )
 
   -- an accepted batch names every group that it opens
   pub named : refusal (batchLine most-rows most-groups kept rows gs ticked total) ≡ None → namesFrom kept (total - kept) gs ≡ true

@@ -30,10 +30,10 @@ refilled-more xs ys from i x h l e =
     ap (λ zs. set zs i x) e
     ∙ set-append-right (take from xs) (replicate n x ++ drop i xs) from i x front h
     ∙ ap (λ zs. take from xs ++ zs) (
-      set-append-right (replicate n x) (drop i xs) n n x (length-replicate n x) (omega arith)
-      ∙ ap (λ zs. replicate n x ++ zs) (set-front (drop i xs) (drop (i + 1) xs) (getD xs i x) x (n - n) (omega arith) (drop-more xs i x l))
-      ∙ sym (append-assoc (replicate n x) (x ∷ []) (drop (i + 1) xs))
-      ∙ ap (λ zs. zs ++ drop (i + 1) xs) (replicate-more n x ∙ ap (λ k. replicate k x) more))
+    set-append-right (replicate n x) (drop i xs) n n x (length-replicate n x) (omega arith)
+    ∙ ap (λ zs. replicate n x ++ zs) (set-front (drop i xs) (drop (i + 1) xs) (getD xs i x) x (n - n) (omega arith) (drop-more xs i x l))
+    ∙ sym (append-assoc (replicate n x) (x ∷ []) (drop (i + 1) xs))
+    ∙ ap (λ zs. zs ++ drop (i + 1) xs) (replicate-more n x ∙ ap (λ k. replicate k x) more))
 
 module _ (total : ℕ) (gs : List ℕ) where
   pub below-no : (i : ℕ) → i < length gs → ltb (getD gs i 0) total ≡ false → allBelow total (drop i gs) ≡ allBelow total gs → false ≡ allBelow total gs

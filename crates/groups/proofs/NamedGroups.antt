@@ -128,15 +128,15 @@ module _ (xs : List Bool) (from to : ℕ) (h : from ≤ to) (l : to ≤ length x
 
   pub refilled-length : length (refilled xs from to false) ≡ length xs
   refilled-length =
-    omega (arith, length-append (take from xs) (replicate (to - from) false ++ drop to xs), length-append (replicate (to - from) false) (drop to xs), front, mid, length-drop to xs)
+      omega (arith, length-append (take from xs) (replicate (to - from) false ++ drop to xs), length-append (replicate (to - from) false) (drop to xs), front, mid, length-drop to xs)
 
   pub refilled-take : take from (refilled xs from to false) ≡ take from xs
   refilled-take = take-at (take from xs) _ from front
 
   pub refilled-at : (k : ℕ) → from ≤ k → k < to → getD (refilled xs from to false) k false ≡ false
   refilled-at k a b =
-    let n : k - from < length (replicate (to - from) false) = omega (arith, mid) in
-    getD-append-right (take from xs) _ from k false front a
+      let n : k - from < length (replicate (to - from) false) = omega (arith, mid) in
+      getD-append-right (take from xs) _ from k false front a
       ∙ getD-append-left (replicate (to - from) false) (drop to xs) false (k - from) n
       ∙ getD-replicate (to - from) (k - from) false false (omega arith)
 
@@ -149,16 +149,17 @@ module _ (xs : List Bool) (from to : ℕ) (h : from ≤ to) (l : to ≤ length x
 
     names-decides : (r : Bool) → Decides r ((k : ℕ) → from ≤ k → k < to → getD m₂ k false ≡ true) → Decides r (AllNamed from to gs)
     names-decides r d = (
-        (λ t k a b. ⊎-elim (λ s. absurd (fresh k a b s)) (λ s. s) (named-only from k m₁ gs (sym (ap (λ ms. getD ms k false) e₂) ∙ d .0 t k a b))),
-        λ all. d .1 (λ k a b.
+      (λ t k a b. ⊎-elim (λ s. absurd (fresh k a b s)) (λ s. s) (named-only from k m₁ gs (sym (ap (λ ms. getD ms k false) e₂) ∙ d .0 t k a b))),
+      λ all. d .1 (λ k a b.
           let long : k < length m₁ = omega (arith, ap length e₁, refilled-length) in
-          ap (λ ms. getD ms k false) e₂ ∙ named-set from k m₁ gs a long (all k a b)))
+          ap (λ ms. getD ms k false) e₂ ∙ named-set from k m₁ gs a long (all k a b)),
+    )
 
     pub names-answer : (r : Bool) → Decides r ((k : ℕ) → from ≤ k → k < to → getD m₂ k false ≡ true) → r ≡ namesFrom from (to - from) gs
     names-answer r d =
-      let e : from + (to - from) ≡ to = omega arith in
-      let P : ℕ → Type 0 = λ n. Decides r (AllNamed from n gs) in
-      names-bool r from (to - from) gs (subst P (sym e) (names-decides r d))
+        let e : from + (to - from) ≡ to = omega arith in
+        let P : ℕ → Type 0 = λ n. Decides r (AllNamed from n gs) in
+        names-bool r from (to - from) gs (subst P (sym e) (names-decides r d))
 
     pub table-front : take from m₂ ≡ take from xs
     table-front = ap (take from) e₂ ∙ named-take from m₁ gs ∙ ap (take from) e₁ ∙ refilled-take

@@ -22,5 +22,5 @@ batchLine most-rows most-groups kept n groups ticked total =
       not-named = not (namesFrom kept (total - kept) groups);
       too-many-pairs = false;
       too-many-groups = false;
-      buffer-short = false
+      buffer-short = false;
     }

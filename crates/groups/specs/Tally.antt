@@ -75,16 +75,32 @@ refusal c =
 abbrev pub emit-conditions : Bool → Bool → Conditions
 emit-conditions many small =
     record {
-      too-many-rows = false; indices-differ = false; filter-differs = false; total-below = false; total-above = false;
-      index-above = false; not-named = false; too-many-pairs = false; too-many-groups = many; buffer-short = small
+      too-many-rows = false;
+      indices-differ = false;
+      filter-differs = false;
+      total-below = false;
+      total-above = false;
+      index-above = false;
+      not-named = false;
+      too-many-pairs = false;
+      too-many-groups = many;
+      buffer-short = small;
     }
 
 -- 5, 7 and 14 alone
 abbrev pub convert-conditions : Bool → Bool → Bool → Conditions
 convert-conditions many differ small =
     record {
-      too-many-rows = many; indices-differ = false; filter-differs = differ; total-below = false; total-above = false;
-      index-above = false; not-named = false; too-many-pairs = false; too-many-groups = false; buffer-short = small
+      too-many-rows = many;
+      indices-differ = false;
+      filter-differs = differ;
+      total-below = false;
+      total-above = false;
+      index-above = false;
+      not-named = false;
+      too-many-pairs = false;
+      too-many-groups = false;
+      buffer-short = small;
     }
 
 -- a refused call changes nothing
@@ -165,7 +181,7 @@ module _ {V S O : Type 0} (K : Kind V S O) where
         not-named = not (namesFrom (length (m .credits)) (total - length (m .credits)) groups);
         too-many-pairs = ltb (m .most-pairs) (sumBy (K .pairs) after);
         too-many-groups = false;
-        buffer-short = false
+        buffer-short = false;
       }
 
   abbrev pub update-refusal : Means → List (Cell V) → Ticks → List ℕ → ℕ → Option Refusal

@@ -29,7 +29,15 @@ fn all_below(group_indices: &[usize], total: usize) -> bool
 }
 
 /// The refusals of a batch that need no memory, 5 to 10, in their order. `ticked` is the length of a filter that is given.
-fn refuse_batch(most_rows: usize, most_groups: usize, kept: usize, rows: usize, group_indices: &[usize], ticked: Option<usize>, total: usize) -> Result<(), Refusal>
+fn refuse_batch(
+    most_rows: usize,
+    most_groups: usize,
+    kept: usize,
+    rows: usize,
+    group_indices: &[usize],
+    ticked: Option<usize>,
+    total: usize,
+) -> Result<(), Refusal>
     ensures { λ r. ⌜ errPart r ≡ foremost ((ltb «most_rows» rows, TooManyRows) ∷ (not (eqb rows (length (now («group_indices» .entry)))), IndexCount) ∷ (not (eqb (valueOr ticked rows) rows), FilterLength) ∷ (ltb total kept, TotalBelowKept) ∷ (ltb «most_groups» total, TotalAboveLimit) ∷ (not (allBelow total (now («group_indices» .entry))), IndexAboveTotal) ∷ []) ⌝ }
 {
     if rows > most_rows {
@@ -93,12 +101,29 @@ fn names_all(marks: &mut [bool], group_indices: &[usize], kept: usize, total: us
 }
 
 /// Decides the refusals 5 to 11 of a batch, in their order. Of the marks, those of the kept groups stay.
-pub fn refuse(most_rows: usize, most_groups: usize, kept: usize, rows: usize, group_indices: &[usize], ticked: Option<usize>, total: usize, marks: &mut [bool]) -> Result<(), Refusal>
+pub fn refuse(
+    most_rows: usize,
+    most_groups: usize,
+    kept: usize,
+    rows: usize,
+    group_indices: &[usize],
+    ticked: Option<usize>,
+    total: usize,
+    marks: &mut [bool],
+) -> Result<(), Refusal>
     requires { ⌜ «most_groups» ≤ length (now marks) ⌝ }
     ensures answer { λ r. ⌜ errPart r ≡ refusal (batchLine «most_rows» «most_groups» kept rows (now («group_indices» .entry)) ticked total) ⌝ }
     ensures marks { λ r. ⌜ take kept (now (marks .exit)) ≡ take kept (now (marks .entry)) ⌝ }
 {
-    refuse_batch(most_rows, most_groups, kept, rows, group_indices, ticked, total)?;
+    refuse_batch(
+        most_rows,
+        most_groups,
+        kept,
+        rows,
+        group_indices,
+        ticked,
+        total,
+    )?;
     if !names_all(marks, group_indices, kept, total) {
         return Err(Refusal::GroupNotNamed);
     }

@@ -15,12 +15,17 @@ use columnar::rows::Rows;
 pub trait GroupsAccumulator<'a> {
     /// A row's value, a state row's figure and a shown figure.
     type Value;
+
     type State;
+
     type Out;
     /// The views and buffers of these.
     type Values: Rows<Self::Value>;
+
     type States: Rows<Self::State>;
+
     type Answers: Buffers<Self::Out>;
+
     type StateBuffers: Buffers<Self::State>;
 
     ghost kind: { Kind Self·Value Self·State Self·Out };
@@ -34,21 +39,37 @@ pub trait GroupsAccumulator<'a> {
     ghost sound: { Self → Type 0 };
 
     /// Joins each row's credit to its group's, after opening groups up to the total.
-    fn update_batch(&mut self, values: &Self::Values, group_indices: &[usize], opt_filter: &Filter<'_>, total_num_groups: usize) -> Result<(), Refusal>
+    fn update_batch(
+        &mut self,
+        values: &Self::Values,
+        group_indices: &[usize],
+        opt_filter: &Filter<'_>,
+        total_num_groups: usize,
+    ) -> Result<(), Refusal>
         requires sound { ⌜ sound (now self) ⌝ }
         ensures stays { λ r. ⌜ sound (now (self .exit)) ⌝ }
         ensures answer { λ r. ⌜ errPart r ≡ update-refusal kind (meaning (now (self .entry))) (Values·Rows .cells (now (values .entry))) (ticks (now («opt_filter» .entry))) (now («group_indices» .entry)) «total_num_groups» ⌝ }
         ensures after { λ r. ⌜ meaning (now (self .exit)) ≡ unless (errPart r) (meaning (now (self .entry))) (updated kind (meaning (now (self .entry))) (Values·Rows .cells (now (values .entry))) (ticks (now («opt_filter» .entry))) (now («group_indices» .entry)) «total_num_groups») ⌝ };
 
     /// Joins each state row's credit to its group's; a null one is the empty credit.
-    fn merge_batch(&mut self, values: &Self::States, group_indices: &[usize], total_num_groups: usize) -> Result<(), Refusal>
+    fn merge_batch(
+        &mut self,
+        values: &Self::States,
+        group_indices: &[usize],
+        total_num_groups: usize,
+    ) -> Result<(), Refusal>
         requires sound { ⌜ sound (now self) ⌝ }
         ensures stays { λ r. ⌜ sound (now (self .exit)) ⌝ }
         ensures answer { λ r. ⌜ errPart r ≡ merge-refusal kind (meaning (now (self .entry))) (States·Rows .cells (now (values .entry))) (now («group_indices» .entry)) «total_num_groups» ⌝ }
         ensures after { λ r. ⌜ meaning (now (self .exit)) ≡ unless (errPart r) (meaning (now (self .entry))) (merged kind (meaning (now (self .entry))) (States·Rows .cells (now (values .entry))) (now («group_indices» .entry)) «total_num_groups») ⌝ };
 
     /// Writes each row's credit as a state row, and changes nothing; a row that is not let through gives the empty credit.
-    fn convert_to_state(&self, values: &Self::Values, opt_filter: &Filter<'_>, out: &mut Self::StateBuffers) -> Result<(), Refusal>
+    fn convert_to_state(
+        &self,
+        values: &Self::Values,
+        opt_filter: &Filter<'_>,
+        out: &mut Self::StateBuffers,
+    ) -> Result<(), Refusal>
         requires sound { ⌜ sound (now self) ⌝ }
         ensures answer { λ r. ⌜ errPart r ≡ convert-refusal kind (StateBuffers·Buffers .layout) (meaning (now (self .entry))) (Values·Rows .cells (now (values .entry))) (ticks (now («opt_filter» .entry))) (StateBuffers·Buffers .room (StateBuffers·Buffers .memory (now (out .entry)))) ⌝ }
         ensures written { λ r. ⌜ StateBuffers·Buffers .memory (now (out .exit)) ≡ unless (errPart r) (StateBuffers·Buffers .memory (now (out .entry))) (stored (StateBuffers·Buffers .masks) (StateBuffers·Buffers .figures) (converted kind (Values·Rows .cells (now (values .entry))) (ticks (now («opt_filter» .entry)))) (StateBuffers·Buffers .memory (now (out .entry)))) ⌝ };
@@ -76,7 +97,11 @@ pub trait GroupsAccumulator<'a> {
 }
 
 /// Writes the state rows of the groups asked for, and removes them: a peek, and then a forgetting.
-pub fn state<'a, T: GroupsAccumulator<'a>>(accumulator: &mut T, emit_to: EmitTo, out: &mut T::StateBuffers) -> Result<(), Refusal>
+pub fn state<'a, T: GroupsAccumulator<'a>>(
+    accumulator: &mut T,
+    emit_to: EmitTo,
+    out: &mut T::StateBuffers,
+) -> Result<(), Refusal>
     requires sound { ⌜ T·GroupsAccumulator .sound (now accumulator) ⌝ }
     ensures stays { λ r. ⌜ T·GroupsAccumulator .sound (now (accumulator .exit)) ⌝ }
     ensures answer { λ r. ⌜ errPart r ≡ peek-refusal (T·GroupsAccumulator .kind) (StateBuffers·Buffers .layout) (T·GroupsAccumulator .meaning (now (accumulator .entry))) «emit_to» (StateBuffers·Buffers .room (StateBuffers·Buffers .memory (now (out .entry)))) ⌝ }

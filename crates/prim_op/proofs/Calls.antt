@@ -80,20 +80,27 @@ join-none rule (Some x) = refl
 module _ {E : Type 0} (start : E) (rule : E → E → E) (m : Meaning (Option E)) (kept : ℕ) (is : length (m .credits) ≡ kept) (none : m .most-pairs ≡ 0) (rows : List (Cell E)) (f : Ticks) (gs : List ℕ) (total : ℕ) where
   abbrev conditions : Bool → ℕ → Bool → Conditions
   conditions filter k pairs =
-    record {
-      too-many-rows = ltb (m .most-rows) (length rows); indices-differ = not (eqb (length rows) (length gs)); filter-differs = filter; total-below = ltb total k;
-      total-above = ltb (m .most-groups) total; index-above = not (allBelow total gs); not-named = not (namesFrom k (total - k) gs); too-many-pairs = pairs;
-      too-many-groups = false; buffer-short = false
-    }
+      record {
+        too-many-rows = ltb (m .most-rows) (length rows);
+        indices-differ = not (eqb (length rows) (length gs));
+        filter-differs = filter;
+        total-below = ltb total k;
+        total-above = ltb (m .most-groups) total;
+        index-above = not (allBelow total gs);
+        not-named = not (namesFrom k (total - k) gs);
+        too-many-pairs = pairs;
+        too-many-groups = false;
+        buffer-short = false;
+      }
 
   pub update-line : refusal (batchLine (m .most-rows) (m .most-groups) kept (length rows) gs (mapped length f) total) ≡ update-refusal (primitive start rule) m rows f gs total
   update-line =
-    let pairs = sumBy (primitive start rule .pairs) in
-    let after = Rattle.groups.specs.Tally.with-rows (primitive start rule) m (Rattle.groups.specs.Tally.row-entries rows f gs) total in
-    let p : false ≡ ltb (m .most-pairs) (pairs after) = sym (ap (λ n. ltb n (pairs after)) none ∙ ap (ltb 0) (no-pairs after)) in
-    ap (λ b. refusal (conditions b kept false)) (sym (differs-is f (length rows)))
-    ∙ ap (λ k. refusal (conditions (differs f (length rows)) k false)) (sym is)
-    ∙ ap (λ b. refusal (conditions (differs f (length rows)) (length (m .credits)) b)) p
+      let pairs = sumBy (primitive start rule .pairs) in
+      let after = Rattle.groups.specs.Tally.with-rows (primitive start rule) m (Rattle.groups.specs.Tally.row-entries rows f gs) total in
+      let p : false ≡ ltb (m .most-pairs) (pairs after) = sym (ap (λ n. ltb n (pairs after)) none ∙ ap (ltb 0) (no-pairs after)) in
+      ap (λ b. refusal (conditions b kept false)) (sym (differs-is f (length rows)))
+      ∙ ap (λ k. refusal (conditions (differs f (length rows)) k false)) (sym is)
+      ∙ ap (λ b. refusal (conditions (differs f (length rows)) (length (m .credits)) b)) p
 
 -- ── the switch ───────────────────────────────────────────────────────────
 pub switch-is : (plain turns batch plain′ : Bool) → plain′ ≡ (plain && not turns) → turns ≡ batch → not plain′ ≡ (not plain || batch)

@@ -43,8 +43,8 @@ module _ {E : Type 0} (start : E) (rule : E → E → E) (join : Option E → Op
   pub credits-told : (ps : List (ℕ × E)) (ms : List Bool) (vs : List E) → Unset start ms vs → All (λ (p : ℕ × E). rule start (p .1) ≡ p .1) ps → deal (λ c x. join c (Some x)) ps (creditsOf ms vs) ≡ creditsOf (markedAt ms ps) (combinedAt start rule vs ps)
   credits-told [] ms vs h u = refl
   credits-told (p ∷ ps) ms vs h u =
-    ap (deal (λ c x. join c (Some x)) ps) (credit-step ms vs (p .0) (p .1) h (u .0))
-    ∙ credits-told ps (set ms (p .0) true) (set vs (p .0) (rule (getD vs (p .0) start) (p .1))) (unset-step ms vs (p .0) _ h) (u .1)
+      ap (deal (λ c x. join c (Some x)) ps) (credit-step ms vs (p .0) (p .1) h (u .0))
+      ∙ credits-told ps (set ms (p .0) true) (set vs (p .0) (rule (getD vs (p .0) start) (p .1))) (unset-step ms vs (p .0) _ h) (u .1)
 
   pub unset-told : (ps : List (ℕ × E)) (ms : List Bool) (vs : List E) → Unset start ms vs → Unset start (markedAt ms ps) (combinedAt start rule vs ps)
   unset-told [] ms vs h = h

@@ -103,23 +103,23 @@ module _ {E : Type 0} where
 
   shown-by : (start : E) (masked : Bool) (ms : List Bool) (vs : List E) → length ms ≡ length vs → Unset start ms vs → handed masked start (map (λ c. c) (creditsOf ms vs)) ≡ record { mask = cond masked (Some ms) None; figures = vs }
   shown-by start masked ms vs e h =
-    ap (λ bs. record { mask = cond masked (Some bs) None; figures = map (λ o. over start o .figure) (map (λ c. c) (creditsOf ms vs)) }) (marks-shown ms vs e)
-    ∙ ap (λ xs. record { mask = cond masked (Some ms) None; figures = xs }) (values-shown start ms vs e h)
+      ap (λ bs. record { mask = cond masked (Some bs) None; figures = map (λ o. over start o .figure) (map (λ c. c) (creditsOf ms vs)) }) (marks-shown ms vs e)
+      ∙ ap (λ xs. record { mask = cond masked (Some ms) None; figures = xs }) (values-shown start ms vs e h)
 
   -- what is laid down is what the credits show
   pub laid-is-shown : (start : E) (plain : Bool) (e : EmitTo) (kept : ℕ) (marks : List Bool) (values : List E) → kept ≤ length marks → kept ≤ length values → countOf e kept ≤ kept → Unset start (inForce plain kept marks) (take kept values)
       → flatColumn values marks (countOf e kept) (not plain) ≡ handed (not plain) start (map (λ c. c) (taken e (creditsOf (inForce plain kept marks) (take kept values))))
   laid-is-shown start plain e kept marks values hm hv few unset =
-    let n = countOf e kept in
-    let ms = inForce plain kept marks in
-    let vs = take kept values in
-    let lm : length ms ≡ kept = forced-length plain kept marks hm in
-    let lv : length vs ≡ kept = length-take-le kept values hv in
-    let lc : length (creditsOf ms vs) ≡ kept = credits-length ms vs (lm ∙ sym lv) ∙ lv in
-    let part : taken e (creditsOf ms vs) ≡ creditsOf (take n ms) (take n vs) = taken-is e (creditsOf ms vs) ∙ ap (λ k. take (countOf e k) (creditsOf ms vs)) lc ∙ credits-take n ms vs in
-    let am : length (take n ms) ≡ n = length-take-le n ms (omega arith) in
-    let av : length (take n vs) ≡ n = length-take-le n vs (omega arith) in
-    sym (
+      let n = countOf e kept in
+      let ms = inForce plain kept marks in
+      let vs = take kept values in
+      let lm : length ms ≡ kept = forced-length plain kept marks hm in
+      let lv : length vs ≡ kept = length-take-le kept values hv in
+      let lc : length (creditsOf ms vs) ≡ kept = credits-length ms vs (lm ∙ sym lv) ∙ lv in
+      let part : taken e (creditsOf ms vs) ≡ creditsOf (take n ms) (take n vs) = taken-is e (creditsOf ms vs) ∙ ap (λ k. take (countOf e k) (creditsOf ms vs)) lc ∙ credits-take n ms vs in
+      let am : length (take n ms) ≡ n = length-take-le n ms (omega arith) in
+      let av : length (take n vs) ≡ n = length-take-le n vs (omega arith) in
+      sym (
       ap (λ cs. handed (not plain) start (map (λ c. c) cs)) part
       ∙ shown-by start (not plain) (take n ms) (take n vs) (am ∙ sym av) (unset-take start n ms vs unset)
       ∙ ap (λ m. record { mask = m; figures = take n vs }) (mask-same plain n kept marks few)
@@ -132,6 +132,7 @@ switch-left e plain plain′ h = ap not h ∙ elim (resets e) as (λ r. not (con
     and-none : (b : Bool) → false ≡ (b && false)
     and-none true = refl
     and-none false = refl
+
     and-all : (b : Bool) → b ≡ (b && true)
     and-all true = refl
     and-all false = refl
@@ -142,8 +143,8 @@ module _ {E : Type 0} (e : EmitTo) (ms : List Bool) (vs vs′ : List E) (kept : 
 
   pub credits-left : creditsOf (others e ms) vs′ ≡ others e (creditsOf ms vs)
   credits-left =
-    let lc : length (creditsOf ms vs) ≡ kept = credits-length ms vs (lm ∙ sym lv) ∙ lv in
-    ap₂ creditsOf others-marks moved ∙ sym (others-is e (creditsOf ms vs) ∙ ap (λ k. drop (countOf e k) (creditsOf ms vs)) lc ∙ credits-drop (countOf e kept) ms vs (lm ∙ sym lv))
+      let lc : length (creditsOf ms vs) ≡ kept = credits-length ms vs (lm ∙ sym lv) ∙ lv in
+      ap₂ creditsOf others-marks moved ∙ sym (others-is e (creditsOf ms vs) ∙ ap (λ k. drop (countOf e k) (creditsOf ms vs)) lc ∙ credits-drop (countOf e kept) ms vs (lm ∙ sym lv))
 
   pub unset-left : (start : E) → Unset start ms vs → Unset start (others e ms) vs′
   unset-left start h = rw (others-marks, moved) (unset-drop start (countOf e kept) ms vs (lm ∙ sym lv) h)

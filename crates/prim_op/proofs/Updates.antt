@@ -34,9 +34,9 @@ module _ {E : Type 0} (start : E) (rule : E → E → E) (n : ℕ) where
   pub take-combined : (ps : List (ℕ × E)) (vs : List E) → All (λ (p : ℕ × E). p .0 < n) ps → take n (combinedAt start rule vs ps) ≡ combinedAt start rule (take n vs) ps
   take-combined [] vs h = refl
   take-combined (p ∷ ps) vs h =
-    let k = p .0 in
-    take-combined ps (set vs k (rule (getD vs k start) (p .1))) (h .1)
-    ∙ ap (λ ws. combinedAt start rule ws ps) (take-set-lt n vs k (rule (getD vs k start) (p .1)) (h .0) ∙ ap (λ y. set (take n vs) k (rule y (p .1))) (sym (getD-take n vs k start (h .0))))
+      let k = p .0 in
+      take-combined ps (set vs k (rule (getD vs k start) (p .1))) (h .1)
+      ∙ ap (λ ws. combinedAt start rule ws ps) (take-set-lt n vs k (rule (getD vs k start) (p .1)) (h .0) ∙ ap (λ y. set (take n vs) k (rule y (p .1))) (sym (getD-take n vs k start (h .0))))
 
   pub take-marked : (ps : List (ℕ × E)) (ms : List Bool) → All (λ (p : ℕ × E). p .0 < n) ps → take n (markedAt ms ps) ≡ markedAt (take n ms) ps
   take-marked [] ms h = refl
@@ -103,14 +103,14 @@ all-marked kept d ps covered =
     let long : length ms ≡ kept + d = length-append (replicate kept true) (replicate d false) ∙ ap₂ (λ a b. a + b) (length-replicate kept true) (length-replicate d false) in
     let after : length (markedAt ms ps) ≡ kept + d = marked-length ps ms ∙ long in
     same-lists (markedAt ms ps) (replicate (kept + d) true) (after ∙ sym (length-replicate (kept + d) true)) (λ k def h.
-      let l : k < kept + d = omega (arith, after) in
-      read-at (markedAt ms ps) k def h
-      ∙ ⊎-elim
-        (λ old. let o : k < length (replicate kept true) = omega (arith, length-replicate kept true) in
-          marked-keeps ps ms k (getD-append-left (replicate kept true) (replicate d false) false k o ∙ getD-replicate kept k true false old))
-        (λ new. marked-has ps ms k (omega (arith, long)) (covered k new l))
-        (cases-lt k kept)
-      ∙ sym (getD-replicate (kept + d) k true def l))
+    let l : k < kept + d = omega (arith, after) in
+    read-at (markedAt ms ps) k def h
+    ∙ ⊎-elim
+    (λ old. let o : k < length (replicate kept true) = omega (arith, length-replicate kept true) in
+    marked-keeps ps ms k (getD-append-left (replicate kept true) (replicate d false) false k o ∙ getD-replicate kept k true false old))
+    (λ new. marked-has ps ms k (omega (arith, long)) (covered k new l))
+    (cases-lt k kept)
+    ∙ sym (getD-replicate (kept + d) k true def l))
 
 -- ── an accepted update ───────────────────────────────────────────────────
 pub record Told {E : Type 0} (start : E) (rule : E → E → E) (kept total : ℕ) (plain plain′ : Bool) (M₀ M₁ M′ : List Bool) (V₀ V₁ V′ : List E) (ps : List (ℕ × E)) : Type 0 where
@@ -163,11 +163,11 @@ module _ {E : Type 0} {start : E} {rule : E → E → E} {kept total : ℕ} {pla
     pub credits-updated : (tell : List Bool) (gs : List ℕ) (rows : List (Cell E)) → ps ≡ visits gs rows tell
         → creditsOf (inForce plain′ total M′) (take total V′) ≡ deal join (admitted tell gs (map seen rows)) (creditsOf (inForce plain kept M₀) (take kept V₀) ++ replicate (total - kept) None)
     credits-updated tell gs rows e =
-      ap₂ creditsOf marks-are values-agree
-      ∙ sym (credits-told start rule join none some ps (opened-marks plain kept total M₀) (opened-values start kept total V₀) unset-before (t .fit))
-      ∙ ap (deal (λ c x. join c (Some x)) ps) (credits-append (inForce plain kept M₀) (replicate (total - kept) false) (take kept V₀) (replicate (total - kept) start) even ∙ ap (λ cs. creditsOf (inForce plain kept M₀) (take kept V₀) ++ cs) (credits-opened start (total - kept)))
-      ∙ ap (λ qs. deal (λ c x. join c (Some x)) qs (creditsOf (inForce plain kept M₀) (take kept V₀) ++ replicate (total - kept) None)) e
-      ∙ sym (rows-dealt join right tell gs rows _)
+        ap₂ creditsOf marks-are values-agree
+        ∙ sym (credits-told start rule join none some ps (opened-marks plain kept total M₀) (opened-values start kept total V₀) unset-before (t .fit))
+        ∙ ap (deal (λ c x. join c (Some x)) ps) (credits-append (inForce plain kept M₀) (replicate (total - kept) false) (take kept V₀) (replicate (total - kept) start) even ∙ ap (λ cs. creditsOf (inForce plain kept M₀) (take kept V₀) ++ cs) (credits-opened start (total - kept)))
+        ∙ ap (λ qs. deal (λ c x. join c (Some x)) qs (creditsOf (inForce plain kept M₀) (take kept V₀) ++ replicate (total - kept) None)) e
+        ∙ sym (rows-dealt join right tell gs rows _)
 
 -- ── a batch that does not turn the switch visits every row ───────────────
 no-null : (v : Bool) (n : ℕ) → cond (not v) 1 0 + n ≡ 0 → (v ≡ true) × (n ≡ 0)

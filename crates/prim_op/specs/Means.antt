@@ -24,8 +24,11 @@ module _ {E O L : Type 0} where
   abbrev pub meaningOf : OpGroupsAccumulator E O L → Meaning (Option E)
   meaningOf s =
       record {
-        credits = creditsOf (marksOf s) (valuesOf s); marked = not (isPlain (s .«null_state» .«seen_values»)); most-rows = s .«most_rows»;
-        most-groups = s .«most_groups»; most-pairs = 0
+        credits = creditsOf (marksOf s) (valuesOf s);
+        marked = not (isPlain (s .«null_state» .«seen_values»));
+        most-rows = s .«most_rows»;
+        most-groups = s .«most_groups»;
+        most-pairs = 0;
       }
 
   pub record Sound (start : E) (s : OpGroupsAccumulator E O L) : Type 0 where

@@ -7,12 +7,12 @@ ghost use Rattle.operations.specs.Primitive.{primitive};
 ghost use Rattle.operations.proofs.Credits.{primitive-laws};
 ghost use Rattle.prim_op.specs.Means.{meaningOf, Sound};
 use crate::op_groups::OpGroupsAccumulator;
-use columnar::boolean::BooleanColumn;
-use columnar::boolean::BooleanColumnFlat;
-use columnar::boolean::BooleanColumnRows;
 use buffers::buffers::BooleanBuffers;
 use buffers::buffers::BooleanBuffersBuffers;
 use buffers::buffers::BooleanBuffersFlat;
+use columnar::boolean::BooleanColumn;
+use columnar::boolean::BooleanColumnFlat;
+use columnar::boolean::BooleanColumnRows;
 use columnar::filter::Filter;
 use columnar::refusal::Refusal;
 use groups::emit::EmitTo;
@@ -30,7 +30,13 @@ pub type BooleanGroupsAccumulator<'m, O> = OpGroupsAccumulator<'m, bool, O, Pack
 impl<'m, O: Operation<bool>> OpGroupsAccumulator<'m, bool, O, Packed> {
     /// An accumulator of no groups. Its limits are the least of the number asked for, the cap and, for groups, the places
     /// given.
-    pub fn new(values: &'m mut [bool], marks: &'m mut [bool], op: O, max_rows: usize, max_groups: usize) -> OpGroupsAccumulator<'m, bool, O, Packed>
+    pub fn new(
+        values: &'m mut [bool],
+        marks: &'m mut [bool],
+        op: O,
+        max_rows: usize,
+        max_groups: usize,
+    ) -> OpGroupsAccumulator<'m, bool, O, Packed>
         ensures sound { λ r. ⌜ Sound (O·Operation .start) r ⌝ }
         ensures fresh { λ r. ⌜ meaningOf r ≡ fresh (primitive (O·Operation .start) (O·Operation .rule)) (record { rows = min «max_rows» cap; groups = min (min «max_groups» cap) (min (length (now (values .entry))) (length (now (marks .entry)))); pairs = 0 }) ⌝ }
     {
@@ -38,13 +44,24 @@ impl<'m, O: Operation<bool>> OpGroupsAccumulator<'m, bool, O, Packed> {
     }
 }
 
-pub impl<'a, 'm, O: Operation<bool> + 'a> GroupsAccumulator<'a> for OpGroupsAccumulator<'m, bool, O, Packed> as BooleanGroups {
+pub impl<'a, 'm, O: Operation<bool> + 'a> GroupsAccumulator<'a> for OpGroupsAccumulator<
+    'm,
+    bool,
+    O,
+    Packed,
+> as BooleanGroups {
     type Value = bool;
+
     type State = bool;
+
     type Out = bool;
+
     type Values = BooleanColumn<'a>;
+
     type States = BooleanColumn<'a>;
+
     type Answers = BooleanBuffers<'a>;
+
     type StateBuffers = BooleanBuffers<'a>;
 
     ghost kind = { primitive (O·Operation .start) (O·Operation .rule) };
@@ -55,15 +72,31 @@ pub impl<'a, 'm, O: Operation<bool> + 'a> GroupsAccumulator<'a> for OpGroupsAccu
 
     ghost sound = { Sound (O·Operation .start) };
 
-    fn update_batch(&mut self, values: &BooleanColumn<'a>, group_indices: &[usize], opt_filter: &Filter<'_>, total_num_groups: usize) -> Result<(), Refusal> {
+    fn update_batch(
+        &mut self,
+        values: &BooleanColumn<'a>,
+        group_indices: &[usize],
+        opt_filter: &Filter<'_>,
+        total_num_groups: usize,
+    ) -> Result<(), Refusal> {
         self.update_rows(values, group_indices, opt_filter, total_num_groups)
     }
 
-    fn merge_batch(&mut self, values: &BooleanColumn<'a>, group_indices: &[usize], total_num_groups: usize) -> Result<(), Refusal> {
+    fn merge_batch(
+        &mut self,
+        values: &BooleanColumn<'a>,
+        group_indices: &[usize],
+        total_num_groups: usize,
+    ) -> Result<(), Refusal> {
         self.merge_rows(values, group_indices, total_num_groups)
     }
 
-    fn convert_to_state(&self, values: &BooleanColumn<'a>, opt_filter: &Filter<'_>, out: &mut BooleanBuffers<'a>) -> Result<(), Refusal> {
+    fn convert_to_state(
+        &self,
+        values: &BooleanColumn<'a>,
+        opt_filter: &Filter<'_>,
+        out: &mut BooleanBuffers<'a>,
+    ) -> Result<(), Refusal> {
         self.convert_rows(values, opt_filter, out)
     }
 

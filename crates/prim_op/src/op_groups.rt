@@ -17,12 +17,12 @@ ghost use Rattle.groups.specs.Tally.{fresh, unless, update-refusal, updated, me
 ghost use Rattle.operations.specs.Primitive.{primitive};
 ghost use Rattle.walk.specs.Visits.{visits, toldAll};
 ghost use Rattle.prim_op.specs.Means.{marksOf, valuesOf, meaningOf, Sound};
+use buffers::buffers::Buffers;
+use buffers::buffers::FlatBuffers;
 use columnar::filter::Filter;
 use columnar::refusal::Refusal;
 use columnar::rows::FlatRows;
 use columnar::rows::Rows;
-use buffers::buffers::Buffers;
-use buffers::buffers::FlatBuffers;
 use groups::checks::refuse;
 use groups::emit::EmitTo;
 use groups::limits::MOST;
@@ -48,7 +48,14 @@ pub struct OpGroupsAccumulator<'m, T, O, L> {
 
 impl<'m, T: Copy, O: Operation<T>, L> OpGroupsAccumulator<'m, T, O, L> {
     /// An accumulator of no groups over lent memory, with a place and a mark for each group that it may keep.
-    pub(crate) fn over(values: &'m mut [T], marks: &'m mut [bool], op: O, layout: L, max_rows: usize, max_groups: usize) -> OpGroupsAccumulator<'m, T, O, L>
+    pub(crate) fn over(
+        values: &'m mut [T],
+        marks: &'m mut [bool],
+        op: O,
+        layout: L,
+        max_rows: usize,
+        max_groups: usize,
+    ) -> OpGroupsAccumulator<'m, T, O, L>
         ensures sound { λ r. ⌜ Sound (O·Operation .start) r ⌝ }
         ensures fresh { λ r. ⌜ meaningOf r ≡ fresh (primitive (O·Operation .start) (O·Operation .rule)) (record { rows = min «max_rows» cap; groups = min (min «max_groups» cap) (min (length (now (values .entry))) (length (now (marks .entry)))); pairs = 0 }) ⌝ }
     {
@@ -66,7 +73,12 @@ impl<'m, T: Copy, O: Operation<T>, L> OpGroupsAccumulator<'m, T, O, L> {
 }
 
 /// A visit combines the value into its group's, and marks the group once the switch is marked.
-pub impl<'m, T: Copy, O: Operation<T>, L> Visitor<T> for OpGroupsAccumulator<'m, T, O, L> as OpVisitor {
+pub impl<'m, T: Copy, O: Operation<T>, L> Visitor<T> for OpGroupsAccumulator<
+    'm,
+    T,
+    O,
+    L,
+> as OpVisitor {
     ghost Model = { List T × (List Bool × Bool) };
 
     ghost model = { λ s. (behind (s .values), (behind (s .marks), isPlain (s .«null_state» .«seen_values»))) };
@@ -87,7 +99,12 @@ pub impl<'m, T: Copy, O: Operation<T>, L> Visitor<T> for OpGroupsAccumulator<'m,
 }
 
 /// A walk over any column.
-fn walk<T: Copy, C: Accumulate<T>, V: Visitor<T>>(values: &C, group_indices: &[usize], opt_filter: &Filter<'_>, visitor: &mut V)
+fn walk<T: Copy, C: Accumulate<T>, V: Visitor<T>>(
+    values: &C,
+    group_indices: &[usize],
+    opt_filter: &Filter<'_>,
+    visitor: &mut V,
+)
     requires even { ⌜ length (now «group_indices») ≡ length (C·Rows .cells (now values)) ⌝ }
     requires named { ⌜ All (λ k. k < V·Visitor .fixed (now visitor) .0) (now «group_indices») ⌝ }
     requires ticked { ⌜ Cases (ticks (now «opt_filter»)) (Unit {0}) (λ ts. length ts ≡ length (now «group_indices»)) ⌝ }
@@ -122,7 +139,13 @@ impl<'m, T: Copy, O: Operation<T>, L> OpGroupsAccumulator<'m, T, O, L> {
     }
 
     /// Joins each row's credit to its group's, after opening groups up to the total; or a refusal, and nothing changed.
-    pub(crate) fn update_rows<C: Accumulate<T>>(&mut self, values: &C, group_indices: &[usize], opt_filter: &Filter<'_>, total: usize) -> Result<(), Refusal>
+    pub(crate) fn update_rows<C: Accumulate<T>>(
+        &mut self,
+        values: &C,
+        group_indices: &[usize],
+        opt_filter: &Filter<'_>,
+        total: usize,
+    ) -> Result<(), Refusal>
         requires { ⌜ Sound (O·Operation .start) (now self) ⌝ }
         ensures stays { λ r. ⌜ Sound (O·Operation .start) (now (self .exit)) ⌝ }
         ensures answer { λ r. ⌜ errPart r ≡ update-refusal (primitive (O·Operation .start) (O·Operation .rule)) (meaningOf (now (self .entry))) (C·Rows .cells (now (values .entry))) (ticks (now («opt_filter» .entry))) (now («group_indices» .entry)) total ⌝ }
@@ -131,7 +154,16 @@ impl<'m, T: Copy, O: Operation<T>, L> OpGroupsAccumulator<'m, T, O, L> {
         let kept = self.null_state.kept;
         let most_rows = self.most_rows;
         let most_groups = self.most_groups;
-        refuse(most_rows, most_groups, kept, values.len(), group_indices, opt_filter.ticked(), total, self.marks)?;
+        refuse(
+            most_rows,
+            most_groups,
+            kept,
+            values.len(),
+            group_indices,
+            opt_filter.ticked(),
+            total,
+            self.marks,
+        )?;
         let turns = opt_filter.given() | (values.null_count() > 0);
         self.open(total, turns);
         walk(values, group_indices, opt_filter, self);
@@ -139,7 +171,11 @@ impl<'m, T: Copy, O: Operation<T>, L> OpGroupsAccumulator<'m, T, O, L> {
     }
 
     /// Writes what the groups asked for show; or a refusal, and nothing written.
-    pub(crate) fn show<B: FlatBuffers<T>>(&self, emit_to: EmitTo, out: &mut B) -> Result<(), Refusal>
+    pub(crate) fn show<B: FlatBuffers<T>>(
+        &self,
+        emit_to: EmitTo,
+        out: &mut B,
+    ) -> Result<(), Refusal>
         requires { ⌜ Sound (O·Operation .start) (now self) ⌝ }
         ensures answer { λ r. ⌜ errPart r ≡ evaluate-refusal (primitive (O·Operation .start) (O·Operation .rule)) (B·Buffers .layout) (meaningOf (now (self .entry))) «emit_to» (B·Buffers .room (B·Buffers .memory (now (out .entry)))) ⌝ }
         ensures written { λ r. ⌜ B·Buffers .memory (now (out .exit)) ≡ unless (errPart r) (B·Buffers .memory (now (out .entry))) (stored (B·Buffers .masks) (B·Buffers .figures) (answer (primitive (O·Operation .start) (O·Operation .rule)) (meaningOf (now (self .entry))) «emit_to») (B·Buffers .memory (now (out .entry)))) ⌝ }
@@ -173,7 +209,11 @@ impl<'m, T: Copy, O: Operation<T>, L> OpGroupsAccumulator<'m, T, O, L> {
     }
 
     /// Shows the groups asked for and removes them; or a refusal, and nothing changed.
-    pub(crate) fn emit<B: FlatBuffers<T>>(&mut self, emit_to: EmitTo, out: &mut B) -> Result<(), Refusal>
+    pub(crate) fn emit<B: FlatBuffers<T>>(
+        &mut self,
+        emit_to: EmitTo,
+        out: &mut B,
+    ) -> Result<(), Refusal>
         requires { ⌜ Sound (O·Operation .start) (now self) ⌝ }
         ensures stays { λ r. ⌜ Sound (O·Operation .start) (now (self .exit)) ⌝ }
         ensures answer { λ r. ⌜ errPart r ≡ evaluate-refusal (primitive (O·Operation .start) (O·Operation .rule)) (B·Buffers .layout) (meaningOf (now (self .entry))) «emit_to» (B·Buffers .room (B·Buffers .memory (now (out .entry)))) ⌝ }
@@ -186,7 +226,12 @@ impl<'m, T: Copy, O: Operation<T>, L> OpGroupsAccumulator<'m, T, O, L> {
     }
 
     /// Joins each state row's credit to its group's: a state row is a row, and no filter is given.
-    pub(crate) fn merge_rows<C: Accumulate<T>>(&mut self, values: &C, group_indices: &[usize], total: usize) -> Result<(), Refusal>
+    pub(crate) fn merge_rows<C: Accumulate<T>>(
+        &mut self,
+        values: &C,
+        group_indices: &[usize],
+        total: usize,
+    ) -> Result<(), Refusal>
         requires { ⌜ Sound (O·Operation .start) (now self) ⌝ }
         ensures stays { λ r. ⌜ Sound (O·Operation .start) (now (self .exit)) ⌝ }
         ensures answer { λ r. ⌜ errPart r ≡ merge-refusal (primitive (O·Operation .start) (O·Operation .rule)) (meaningOf (now (self .entry))) (C·Rows .cells (now (values .entry))) (now («group_indices» .entry)) total ⌝ }
@@ -213,7 +258,12 @@ impl<'m, T: Copy, O: Operation<T>, L> OpGroupsAccumulator<'m, T, O, L> {
 
     /// Writes each row as a state row, null over the start value where it is null or not let through; or a refusal, and
     /// nothing written.
-    pub(crate) fn convert_rows<C: FlatRows<T>, B: FlatBuffers<T>>(&self, values: &C, opt_filter: &Filter<'_>, out: &mut B) -> Result<(), Refusal>
+    pub(crate) fn convert_rows<C: FlatRows<T>, B: FlatBuffers<T>>(
+        &self,
+        values: &C,
+        opt_filter: &Filter<'_>,
+        out: &mut B,
+    ) -> Result<(), Refusal>
         ensures answer { λ r. ⌜ errPart r ≡ convert-refusal (primitive (O·Operation .start) (O·Operation .rule)) (B·Buffers .layout) (meaningOf (now (self .entry))) (C·Rows .cells (now (values .entry))) (ticks (now («opt_filter» .entry))) (B·Buffers .room (B·Buffers .memory (now (out .entry)))) ⌝ }
         ensures written { λ r. ⌜ B·Buffers .memory (now (out .exit)) ≡ unless (errPart r) (B·Buffers .memory (now (out .entry))) (stored (B·Buffers .masks) (B·Buffers .figures) (converted (primitive (O·Operation .start) (O·Operation .rule)) (C·Rows .cells (now (values .entry))) (ticks (now («opt_filter» .entry)))) (B·Buffers .memory (now (out .entry)))) ⌝ }
     {

@@ -30,7 +30,13 @@ pub type PrimitiveGroupsAccumulator<'m, T, O> = OpGroupsAccumulator<'m, T, O, Pl
 impl<'m, T: Copy, O: Operation<T>> OpGroupsAccumulator<'m, T, O, Plain> {
     /// An accumulator of no groups. Its limits are the least of the number asked for, the cap and, for groups, the places
     /// given.
-    pub fn new(values: &'m mut [T], marks: &'m mut [bool], op: O, max_rows: usize, max_groups: usize) -> OpGroupsAccumulator<'m, T, O, Plain>
+    pub fn new(
+        values: &'m mut [T],
+        marks: &'m mut [bool],
+        op: O,
+        max_rows: usize,
+        max_groups: usize,
+    ) -> OpGroupsAccumulator<'m, T, O, Plain>
         ensures sound { λ r. ⌜ Sound (O·Operation .start) r ⌝ }
         ensures fresh { λ r. ⌜ meaningOf r ≡ fresh (primitive (O·Operation .start) (O·Operation .rule)) (record { rows = min «max_rows» cap; groups = min (min «max_groups» cap) (min (length (now (values .entry))) (length (now (marks .entry)))); pairs = 0 }) ⌝ }
     {
@@ -38,13 +44,24 @@ impl<'m, T: Copy, O: Operation<T>> OpGroupsAccumulator<'m, T, O, Plain> {
     }
 }
 
-pub impl<'a, 'm, T: Copy + 'a, O: Operation<T>> GroupsAccumulator<'a> for OpGroupsAccumulator<'m, T, O, Plain> as PrimitiveGroups {
+pub impl<'a, 'm, T: Copy + 'a, O: Operation<T>> GroupsAccumulator<'a> for OpGroupsAccumulator<
+    'm,
+    T,
+    O,
+    Plain,
+> as PrimitiveGroups {
     type Value = T;
+
     type State = T;
+
     type Out = T;
+
     type Values = PrimitiveColumn<'a, T>;
+
     type States = PrimitiveColumn<'a, T>;
+
     type Answers = PrimitiveBuffers<'a, T>;
+
     type StateBuffers = PrimitiveBuffers<'a, T>;
 
     ghost kind = { primitive (O·Operation .start) (O·Operation .rule) };
@@ -55,19 +72,39 @@ pub impl<'a, 'm, T: Copy + 'a, O: Operation<T>> GroupsAccumulator<'a> for OpGrou
 
     ghost sound = { Sound (O·Operation .start) };
 
-    fn update_batch(&mut self, values: &PrimitiveColumn<'a, T>, group_indices: &[usize], opt_filter: &Filter<'_>, total_num_groups: usize) -> Result<(), Refusal> {
+    fn update_batch(
+        &mut self,
+        values: &PrimitiveColumn<'a, T>,
+        group_indices: &[usize],
+        opt_filter: &Filter<'_>,
+        total_num_groups: usize,
+    ) -> Result<(), Refusal> {
         self.update_rows(values, group_indices, opt_filter, total_num_groups)
     }
 
-    fn merge_batch(&mut self, values: &PrimitiveColumn<'a, T>, group_indices: &[usize], total_num_groups: usize) -> Result<(), Refusal> {
+    fn merge_batch(
+        &mut self,
+        values: &PrimitiveColumn<'a, T>,
+        group_indices: &[usize],
+        total_num_groups: usize,
+    ) -> Result<(), Refusal> {
         self.merge_rows(values, group_indices, total_num_groups)
     }
 
-    fn convert_to_state(&self, values: &PrimitiveColumn<'a, T>, opt_filter: &Filter<'_>, out: &mut PrimitiveBuffers<'a, T>) -> Result<(), Refusal> {
+    fn convert_to_state(
+        &self,
+        values: &PrimitiveColumn<'a, T>,
+        opt_filter: &Filter<'_>,
+        out: &mut PrimitiveBuffers<'a, T>,
+    ) -> Result<(), Refusal> {
         self.convert_rows(values, opt_filter, out)
     }
 
-    fn evaluate(&mut self, emit_to: EmitTo, out: &mut PrimitiveBuffers<'a, T>) -> Result<(), Refusal> {
+    fn evaluate(
+        &mut self,
+        emit_to: EmitTo,
+        out: &mut PrimitiveBuffers<'a, T>,
+    ) -> Result<(), Refusal> {
         self.emit(emit_to, out)
     }
 

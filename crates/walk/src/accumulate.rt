@@ -8,6 +8,7 @@ ghost use Rattle.std.specs.shelf.Lists.{All};
 ghost use Rattle.std.specs.declared.option.Option.the-variants.{Some, None};
 ghost use Rattle.columnar.specs.Cells.{passes as letThrough};
 ghost use Rattle.columnar.specs.Rows.{columnCells, booleanCells, ticksOf, Within};
+ghost use Rattle.columnar.specs.Views.{ticks};
 ghost use Rattle.walk.specs.Visits.{visits, toldAll};
 use columnar::bits::bit;
 use columnar::bits::passes;
@@ -130,10 +131,10 @@ pub fn accumulate<T: Copy, V: Visitor<T>>(
 )
     requires even { ⌜ length (now «group_indices») ≡ length (columnCells (mapped behind (now values .mask)) (now values .start) (now (now values .values))) ⌝ }
     requires named { ⌜ All (λ k. k < V·Visitor .fixed (now visitor) .0) (now «group_indices») ⌝ }
-    requires ticked { ⌜ Cases (ticksOf (mapped behind (now «opt_filter» .values)) (now «opt_filter» .start) (mapped behind (now «opt_filter» .mask)) (now «opt_filter» .from) (now «opt_filter» .len)) (Unit {0}) (λ ts. length ts ≡ length (now «group_indices»)) ⌝ }
-    ensures told { λ _. ⌜ V·Visitor .model (now (visitor .exit)) ≡ toldAll (V·Visitor .after) (V·Visitor .model (now (visitor .entry))) (visits (now («group_indices» .entry)) (columnCells (mapped behind (now (values .entry) .mask)) (now (values .entry) .start) (now (now (values .entry) .values))) (letThrough (ticksOf (mapped behind (now («opt_filter» .entry) .values)) (now («opt_filter» .entry) .start) (mapped behind (now («opt_filter» .entry) .mask)) (now («opt_filter» .entry) .from) (now («opt_filter» .entry) .len)) (length (now («group_indices» .entry))))) ⌝ }
+    requires ticked { ⌜ Cases (ticks (now «opt_filter»)) (Unit {0}) (λ ts. length ts ≡ length (now «group_indices»)) ⌝ }
+    ensures told { λ _. ⌜ V·Visitor .model (now (visitor .exit)) ≡ toldAll (V·Visitor .after) (V·Visitor .model (now (visitor .entry))) (visits (now («group_indices» .entry)) (columnCells (mapped behind (now (values .entry) .mask)) (now (values .entry) .start) (now (now (values .entry) .values))) (letThrough (ticks (now («opt_filter» .entry))) (length (now («group_indices» .entry))))) ⌝ }
     ensures same { λ _. ⌜ V·Visitor .fixed (now (visitor .exit)) ≡ V·Visitor .fixed (now (visitor .entry)) ⌝ }
-    ensures fits { λ _. ⌜ All (λ v. V·Visitor .fit (v .1)) (visits (now («group_indices» .entry)) (columnCells (mapped behind (now (values .entry) .mask)) (now (values .entry) .start) (now (now (values .entry) .values))) (letThrough (ticksOf (mapped behind (now («opt_filter» .entry) .values)) (now («opt_filter» .entry) .start) (mapped behind (now («opt_filter» .entry) .mask)) (now («opt_filter» .entry) .from) (now («opt_filter» .entry) .len)) (length (now («group_indices» .entry))))) ⌝ }
+    ensures fits { λ _. ⌜ All (λ v. V·Visitor .fit (v .1)) (visits (now («group_indices» .entry)) (columnCells (mapped behind (now (values .entry) .mask)) (now (values .entry) .start) (now (now (values .entry) .values))) (letThrough (ticks (now («opt_filter» .entry))) (length (now («group_indices» .entry))))) ⌝ }
 {
     let data = values.values;
     let mask = values.mask;
@@ -255,10 +256,10 @@ pub fn accumulate_boolean<V: Visitor<bool>>(
 )
     requires even { ⌜ length (now «group_indices») ≡ length (booleanCells (now (now values .bytes)) (now values .start) (mapped behind (now values .mask)) (now values .from) (now values .len)) ⌝ }
     requires named { ⌜ All (λ k. k < V·Visitor .fixed (now visitor) .0) (now «group_indices») ⌝ }
-    requires ticked { ⌜ Cases (ticksOf (mapped behind (now «opt_filter» .values)) (now «opt_filter» .start) (mapped behind (now «opt_filter» .mask)) (now «opt_filter» .from) (now «opt_filter» .len)) (Unit {0}) (λ ts. length ts ≡ length (now «group_indices»)) ⌝ }
-    ensures told { λ _. ⌜ V·Visitor .model (now (visitor .exit)) ≡ toldAll (V·Visitor .after) (V·Visitor .model (now (visitor .entry))) (visits (now («group_indices» .entry)) (booleanCells (now (now (values .entry) .bytes)) (now (values .entry) .start) (mapped behind (now (values .entry) .mask)) (now (values .entry) .from) (now (values .entry) .len)) (letThrough (ticksOf (mapped behind (now («opt_filter» .entry) .values)) (now («opt_filter» .entry) .start) (mapped behind (now («opt_filter» .entry) .mask)) (now («opt_filter» .entry) .from) (now («opt_filter» .entry) .len)) (length (now («group_indices» .entry))))) ⌝ }
+    requires ticked { ⌜ Cases (ticks (now «opt_filter»)) (Unit {0}) (λ ts. length ts ≡ length (now «group_indices»)) ⌝ }
+    ensures told { λ _. ⌜ V·Visitor .model (now (visitor .exit)) ≡ toldAll (V·Visitor .after) (V·Visitor .model (now (visitor .entry))) (visits (now («group_indices» .entry)) (booleanCells (now (now (values .entry) .bytes)) (now (values .entry) .start) (mapped behind (now (values .entry) .mask)) (now (values .entry) .from) (now (values .entry) .len)) (letThrough (ticks (now («opt_filter» .entry))) (length (now («group_indices» .entry))))) ⌝ }
     ensures same { λ _. ⌜ V·Visitor .fixed (now (visitor .exit)) ≡ V·Visitor .fixed (now (visitor .entry)) ⌝ }
-    ensures fits { λ _. ⌜ All (λ v. V·Visitor .fit (v .1)) (visits (now («group_indices» .entry)) (booleanCells (now (now (values .entry) .bytes)) (now (values .entry) .start) (mapped behind (now (values .entry) .mask)) (now (values .entry) .from) (now (values .entry) .len)) (letThrough (ticksOf (mapped behind (now («opt_filter» .entry) .values)) (now («opt_filter» .entry) .start) (mapped behind (now («opt_filter» .entry) .mask)) (now («opt_filter» .entry) .from) (now («opt_filter» .entry) .len)) (length (now («group_indices» .entry))))) ⌝ }
+    ensures fits { λ _. ⌜ All (λ v. V·Visitor .fit (v .1)) (visits (now («group_indices» .entry)) (booleanCells (now (now (values .entry) .bytes)) (now (values .entry) .start) (mapped behind (now (values .entry) .mask)) (now (values .entry) .from) (now (values .entry) .len)) (letThrough (ticks (now («opt_filter» .entry))) (length (now («group_indices» .entry))))) ⌝ }
 {
     let bits = values.bytes;
     let first = values.start;

@@ -2,11 +2,10 @@ ghost use mathlib.Core.Path.{_≡_};
 ghost use mathlib.Core.List.{List};
 ghost use Prim.Native.Nat.{ℕ, _<_};
 ghost use lib.ListN.{length};
-ghost use denote.Ref.{now as behind};
-ghost use Rattle.std.specs.Options.{mapped, Cases};
+ghost use Rattle.std.specs.Options.{Cases};
 ghost use Rattle.std.specs.shelf.Lists.{All};
 ghost use Rattle.columnar.specs.Cells.{passes as letThrough};
-ghost use Rattle.columnar.specs.Rows.{ticksOf};
+ghost use Rattle.columnar.specs.Views.{ticks};
 ghost use Rattle.walk.specs.Visits.{visits, toldAll};
 use crate::accumulate::Visitor;
 use crate::accumulate::accumulate;
@@ -29,10 +28,10 @@ pub trait Accumulate<X>: Rows<X> {
     )
         requires even { ⌜ length (now «group_indices») ≡ length (Self·Rows .cells (now self)) ⌝ }
         requires named { ⌜ All (λ k. k < V·Visitor .fixed (now visitor) .0) (now «group_indices») ⌝ }
-        requires ticked { ⌜ Cases (ticksOf (mapped behind (now «opt_filter» .values)) (now «opt_filter» .start) (mapped behind (now «opt_filter» .mask)) (now «opt_filter» .from) (now «opt_filter» .len)) (Unit {0}) (λ ts. length ts ≡ length (now «group_indices»)) ⌝ }
-        ensures told { λ _. ⌜ V·Visitor .model (now (visitor .exit)) ≡ toldAll (V·Visitor .after) (V·Visitor .model (now (visitor .entry))) (visits (now («group_indices» .entry)) (Self·Rows .cells (now (self .entry))) (letThrough (ticksOf (mapped behind (now («opt_filter» .entry) .values)) (now («opt_filter» .entry) .start) (mapped behind (now («opt_filter» .entry) .mask)) (now («opt_filter» .entry) .from) (now («opt_filter» .entry) .len)) (length (now («group_indices» .entry))))) ⌝ }
+        requires ticked { ⌜ Cases (ticks (now «opt_filter»)) (Unit {0}) (λ ts. length ts ≡ length (now «group_indices»)) ⌝ }
+        ensures told { λ _. ⌜ V·Visitor .model (now (visitor .exit)) ≡ toldAll (V·Visitor .after) (V·Visitor .model (now (visitor .entry))) (visits (now («group_indices» .entry)) (Self·Rows .cells (now (self .entry))) (letThrough (ticks (now («opt_filter» .entry))) (length (now («group_indices» .entry))))) ⌝ }
         ensures same { λ _. ⌜ V·Visitor .fixed (now (visitor .exit)) ≡ V·Visitor .fixed (now (visitor .entry)) ⌝ }
-        ensures fits { λ _. ⌜ All (λ v. V·Visitor .fit (v .1)) (visits (now («group_indices» .entry)) (Self·Rows .cells (now (self .entry))) (letThrough (ticksOf (mapped behind (now («opt_filter» .entry) .values)) (now («opt_filter» .entry) .start) (mapped behind (now («opt_filter» .entry) .mask)) (now («opt_filter» .entry) .from) (now («opt_filter» .entry) .len)) (length (now («group_indices» .entry))))) ⌝ };
+        ensures fits { λ _. ⌜ All (λ v. V·Visitor .fit (v .1)) (visits (now («group_indices» .entry)) (Self·Rows .cells (now (self .entry))) (letThrough (ticks (now («opt_filter» .entry))) (length (now («group_indices» .entry))))) ⌝ };
 }
 
 pub impl<'a, T: Copy> Accumulate<T> for PrimitiveColumn<'a, T> as PrimitiveColumnAccumulate {

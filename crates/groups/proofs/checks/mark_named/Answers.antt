@@ -11,8 +11,8 @@ index-marks-group c = omega (arith, index-below (length (c .args .marks .now)) (
 pub loop-group-again : need.loop-group-again
 loop-group-again c =
     elim (c .if-group-kept .came) [
-      then-group-kept w ↦ named-yes _ _ _ _ _ _ (c .loop-group-test .taken) (le-leb _ _ (w .if-group-kept .taken)) (w .marks-is) (c .loop-group .inv)
-    | else-group-kept w ↦ named-no _ _ _ _ _ _ (c .loop-group-test .taken) (lt-leb _ _ (w .if-group-kept .left)) (w .marks-is) (c .loop-group .inv)
+      | then-group-kept w ↦ named-yes _ _ _ _ _ _ (c .loop-group-test .taken) (le-leb _ _ (w .if-group-kept .taken)) (w .marks-is) (c .loop-group .inv)
+      | else-group-kept w ↦ named-no _ _ _ _ _ _ (c .loop-group-test .taken) (lt-leb _ _ (w .if-group-kept .left)) (w .marks-is) (c .loop-group .inv)
     ]
 
 pub returns : need.returns

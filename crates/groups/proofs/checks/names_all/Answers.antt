@@ -16,5 +16,5 @@ returns c =
     let xs = c .args .marks .now in
     record {
       answer = names-answer xs (c .args .kept) (c .args .total) (c .pre .order) (c .pre .within) _ _ (c .args .group-indices .now) (c .fill-part .ensures) (c .mark-named .ensures) _ (c .all-set .ensures);
-      marks = table-front xs (c .args .kept) (c .args .total) (c .pre .order) (c .pre .within) _ _ (c .args .group-indices .now) (c .fill-part .ensures) (c .mark-named .ensures)
+      marks = table-front xs (c .args .kept) (c .args .total) (c .pre .order) (c .pre .within) _ _ (c .args .group-indices .now) (c .fill-part .ensures) (c .mark-named .ensures);
     }

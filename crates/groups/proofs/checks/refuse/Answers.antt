@@ -17,7 +17,7 @@ returns-then-not-names-all c =
     let k = c .args in
     record {
       answer = ap (λ b. cond (not b) (Some GroupNotNamed) None) (sym (c .if-not-names-all .taken)) ∙ line-named (k .most-rows) (k .most-groups) (k .kept) (k .rows) (k .group-indices .now) (k .ticked) (k .total) (c .names-all .result) (c .names-all .ensures .answer) (sym (c .in-Continue-refuse-batch .ensures tt));
-      marks = c .names-all .ensures .marks
+      marks = c .names-all .ensures .marks;
     }
 
 pub returns : need.returns
@@ -25,5 +25,5 @@ returns c =
     let k = c .args in
     record {
       answer = ap (λ b. cond (not b) (Some GroupNotNamed) None) (sym (c .if-not-names-all .left)) ∙ line-named (k .most-rows) (k .most-groups) (k .kept) (k .rows) (k .group-indices .now) (k .ticked) (k .total) (c .names-all .result) (c .names-all .ensures .answer) (sym (c .in-Continue-refuse-batch .ensures tt));
-      marks = c .names-all .ensures .marks
+      marks = c .names-all .ensures .marks;
     }

@@ -31,9 +31,9 @@ returns-then-not-fits g c =
     let small : short (b .layout) room kept ≡ true = not-false _ (sym (c .fits-2 .ensures kept (kept-shaped (o .start) f rows (c .len-rows .result) (c .len-rows .ensures))) ∙ c .if-not-fits .taken) in
     record {
       answer =
-        ap (λ s. cond s (Some ShortBuffer) None) (sym small ∙ ap (short (b .layout) room) (converted-is (o .start) (o .rule) rows f))
-        ∙ convert-line (c .args .self .now .«most_rows») (length rows) f (short (b .layout) room (converted (primitive (o .start) (o .rule)) rows f)) (c .len-rows .result) (c .len-rows .ensures) (c .if-rows-self .left) (ap (λ q. valueOr q (c .len-rows .result)) (sym (c .ticked .ensures)) ∙ sym (c .unwrap-or .ensures) ∙ c .if-unwrap-or-rows .left);
-      written = refl
+          ap (λ s. cond s (Some ShortBuffer) None) (sym small ∙ ap (short (b .layout) room) (converted-is (o .start) (o .rule) rows f))
+          ∙ convert-line (c .args .self .now .«most_rows») (length rows) f (short (b .layout) room (converted (primitive (o .start) (o .rule)) rows f)) (c .len-rows .result) (c .len-rows .ensures) (c .if-rows-self .left) (ap (λ q. valueOr q (c .len-rows .result)) (sym (c .ticked .ensures)) ∙ sym (c .unwrap-or .ensures) ∙ c .if-unwrap-or-rows .left);
+      written = refl;
     }
 
 pub returns : need.returns
@@ -48,10 +48,10 @@ returns g c =
     let small : short (b .layout) room kept ≡ false = not-true _ (sym (c .fits-2 .ensures kept (kept-shaped (o .start) f rows (c .len-rows .result) (c .len-rows .ensures))) ∙ c .if-not-fits .left) in
     record {
       answer =
-        ap (λ s. cond s (Some ShortBuffer) None) (sym small ∙ ap (short (b .layout) room) (converted-is (o .start) (o .rule) rows f))
-        ∙ convert-line (c .args .self .now .«most_rows») (length rows) f (short (b .layout) room (converted (primitive (o .start) (o .rule)) rows f)) (c .len-rows .result) (c .len-rows .ensures) (c .if-rows-self .left) (ap (λ q. valueOr q (c .len-rows .result)) (sym (c .ticked .ensures)) ∙ sym (c .unwrap-or .ensures) ∙ c .if-unwrap-or-rows .left);
+          ap (λ s. cond s (Some ShortBuffer) None) (sym small ∙ ap (short (b .layout) room) (converted-is (o .start) (o .rule) rows f))
+          ∙ convert-line (c .args .self .now .«most_rows») (length rows) f (short (b .layout) room (converted (primitive (o .start) (o .rule)) rows f)) (c .len-rows .result) (c .len-rows .ensures) (c .if-rows-self .left) (ap (λ q. valueOr q (c .len-rows .result)) (sym (c .ticked .ensures)) ∙ sym (c .unwrap-or .ensures) ∙ c .if-unwrap-or-rows .left);
       written =
-        c .put-rows .ensures
-        ∙ ap (λ x. stored (b .masks) (b .figures) (keptRows x (passes f (length rows)) rows) m) (c .starting-value .ensures)
-        ∙ ap (λ col. stored (b .masks) (b .figures) col m) (converted-is (o .start) (o .rule) rows f)
+          c .put-rows .ensures
+          ∙ ap (λ x. stored (b .masks) (b .figures) (keptRows x (passes f (length rows)) rows) m) (c .starting-value .ensures)
+          ∙ ap (λ col. stored (b .masks) (b .figures) col m) (converted-is (o .start) (o .rule) rows f);
     }

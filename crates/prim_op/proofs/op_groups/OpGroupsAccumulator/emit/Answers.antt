@@ -13,5 +13,5 @@ remove-requires g c κs =
     let kept = s .«null_state» .kept in
     record {
       sound = c .pre;
-      few = few-enough (c .args .emit-to) (creditsOf (marksOf s) (valuesOf s)) kept _ _ (kept-credits (isPlain (s .«null_state» .«seen_values»)) kept (s .marks .now) (s .values .now) (omega arith) (omega arith)) (sym (c .in-Continue-show .ensures tt .answer))
+      few = few-enough (c .args .emit-to) (creditsOf (marksOf s) (valuesOf s)) kept _ _ (kept-credits (isPlain (s .«null_state» .«seen_values»)) kept (s .marks .now) (s .values .now) (omega arith) (omega arith)) (sym (c .in-Continue-show .ensures tt .answer));
     }

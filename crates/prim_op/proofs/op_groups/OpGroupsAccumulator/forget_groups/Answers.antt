@@ -17,7 +17,7 @@ returns-then-count-kept g c =
     record {
       stays = c .pre;
       answer = sym (cond-true _ _ _ (many-is (c .args .emit-to) (creditsOf (marksOf s) (valuesOf s)) kept (c .count .result) true many (c .count .ensures) (lt-ltb kept (c .count .result) (c .if-count-kept .taken))));
-      after = refl
+      after = refl;
     }
 
 pub returns : need.returns
@@ -28,5 +28,5 @@ returns g c =
     record {
       stays = c .remove .ensures .stays;
       answer = sym (cond-false _ _ _ (many-is (c .args .emit-to) (creditsOf (marksOf s) (valuesOf s)) kept (c .count .result) false many (c .count .ensures) (le-ltb kept (c .count .result) (c .if-count-kept .left))));
-      after = c .remove .ensures .after
+      after = c .remove .ensures .after;
     }

@@ -19,5 +19,5 @@ returns g c =
     record {
       stays = c .update-rows .ensures .stays;
       answer = c .update-rows .ensures .answer ∙ ap (λ f. update-refusal k m rows f gs total) (c .none-none .ensures) ∙ merge-refusal-is (o .start) (o .rule) m rows gs total;
-      after = c .update-rows .ensures .after ∙ ap (λ f. unless (errPart (c .update-rows .result)) m (updated k m rows f gs total)) (c .none-none .ensures) ∙ ap (unless (errPart (c .update-rows .result)) m) (merged-is (o .start) (o .rule) m rows gs total)
+      after = c .update-rows .ensures .after ∙ ap (λ f. unless (errPart (c .update-rows .result)) m (updated k m rows f gs total)) (c .none-none .ensures) ∙ ap (unless (errPart (c .update-rows .result)) m) (merged-is (o .start) (o .rule) m rows gs total);
     }

@@ -15,12 +15,12 @@ returns g c =
       kept = c .open .ensures .kept;
       switch = c .open .ensures .switch;
       values =
-        ap (take total) (c .fill-part .ensures)
-        ∙ take-refilled (s .values .now) (s .«null_state» .kept) total (c .starting-value-start .result) (c .pre .order) (c .pre .values)
-        ∙ ap (λ x. valuesOf s ++ replicate (total - s .«null_state» .kept) x) (c .starting-value-start .ensures);
+          ap (take total) (c .fill-part .ensures)
+          ∙ take-refilled (s .values .now) (s .«null_state» .kept) total (c .starting-value-start .result) (c .pre .order) (c .pre .values)
+          ∙ ap (λ x. valuesOf s ++ replicate (total - s .«null_state» .kept) x) (c .starting-value-start .ensures);
       marks = c .open .ensures .marks;
       rows = refl;
       groups = refl;
       values-len = omega arith;
-      marks-len = omega arith
+      marks-len = omega arith;
     }

@@ -31,16 +31,18 @@ returns g c =
     let lm = forced-length plain kept (s .marks .now) in-marks in
     let lv = length-take-le kept (s .values .now) in-values in
     let moved : vs ≡ drop n (valuesOf s) =
-      ap (take (t .kept)) (c .move-down .ensures ∙ ap (λ k. movedDown (s .values .now) k kept) (c .count-rows .ensures))
-      ∙ ap (λ k. take k (movedDown (s .values .now) n kept)) (c .remove .ensures .kept)
-      ∙ take-moved (s .values .now) n kept (c .pre .few) in-values in
+    ap (take (t .kept)) (c .move-down .ensures ∙ ap (λ k. movedDown (s .values .now) k kept) (c .count-rows .ensures))
+    ∙ ap (λ k. take k (movedDown (s .values .now) n kept)) (c .remove .ensures .kept)
+    ∙ take-moved (s .values .now) n kept (c .pre .few) in-values in
     let P : List Bool → Type 0 = λ ms. Unset (o .start) ms vs in
     record {
       stays = record {
-        kept-limit = omega (arith, c .remove .ensures .kept); limit-values = omega arith; limit-marks = omega arith;
-        unset = subst P (sym (c .remove .ensures .others)) (unset-left e (marksOf s) (valuesOf s) vs kept lm lv moved (o .start) (c .pre .sound .unset))
+        kept-limit = omega (arith, c .remove .ensures .kept);
+        limit-values = omega arith;
+        limit-marks = omega arith;
+        unset = subst P (sym (c .remove .ensures .others)) (unset-left e (marksOf s) (valuesOf s) vs kept lm lv moved (o .start) (c .pre .sound .unset));
       };
       after = meaning-same _ _ _ _ _ _ _ _ 0
-        (ap (λ ms. creditsOf ms vs) (c .remove .ensures .others) ∙ credits-left e (marksOf s) (valuesOf s) vs kept lm lv moved)
-        (switch-left e plain (isPlain (t .«seen_values»)) (c .remove .ensures .switch)) refl refl
+          (ap (λ ms. creditsOf ms vs) (c .remove .ensures .others) ∙ credits-left e (marksOf s) (valuesOf s) vs kept lm lv moved)
+          (switch-left e plain (isPlain (t .«seen_values»)) (c .remove .ensures .switch)) refl refl;
     }

@@ -25,7 +25,7 @@ returns-then-rows-kept g c =
     let many = kept-credits (isPlain (s .«null_state» .«seen_values»)) kept (s .marks .now) (s .values .now) (omega arith) (omega arith) in
     record {
       answer = sym (cond-true _ _ _ (many-is (c .args .emit-to) (creditsOf (marksOf s) (valuesOf s)) kept (c .count-rows .result) true many (c .count-rows .ensures) (lt-ltb kept (c .count-rows .result) (c .if-rows-kept .taken))));
-      written = refl
+      written = refl;
     }
 
 pub returns-then-not-fits : need.returns-then-not-fits
@@ -43,15 +43,15 @@ returns-then-not-fits g c =
     let flat = flatColumn (s .values .now) (s .marks .now) rows masked in
     let many = kept-credits plain kept (s .marks .now) (s .values .now) in-marks in-values in
     let shown : flat ≡ answer (primitive (o .start) (o .rule)) (meaningOf s) (c .args .emit-to) =
-      ap₂ (flatColumn (s .values .now) (s .marks .now)) (c .count-rows .ensures) (c .is-marked-masked .ensures)
-      ∙ laid-is-shown (o .start) plain (c .args .emit-to) kept (s .marks .now) (s .values .now) in-marks in-values (omega (arith, c .count-rows .ensures)) (c .pre .unset) in
+    ap₂ (flatColumn (s .values .now) (s .marks .now)) (c .count-rows .ensures) (c .is-marked-masked .ensures)
+    ∙ laid-is-shown (o .start) plain (c .args .emit-to) kept (s .marks .now) (s .values .now) in-marks in-values (omega (arith, c .count-rows .ensures)) (c .pre .unset) in
     let small : short (b .layout) (b .room (b .memory (c .args .out .now))) flat ≡ true =
-      not-false _ (sym (c .fits-2 .ensures flat (flat-shaped (s .values .now) (s .marks .now) rows masked (omega arith) (omega arith))) ∙ c .if-not-fits .taken) in
+    not-false _ (sym (c .fits-2 .ensures flat (flat-shaped (s .values .now) (s .marks .now) rows masked (omega arith) (omega arith))) ∙ c .if-not-fits .taken) in
     record {
       answer = sym (
-        cond-false _ _ _ (many-is (c .args .emit-to) (creditsOf (marksOf s) (valuesOf s)) kept rows false many (c .count-rows .ensures) (le-ltb kept rows few))
-        ∙ cond-true _ _ _ (ap (short (b .layout) (b .room (b .memory (c .args .out .now)))) (sym shown) ∙ small));
-      written = refl
+          cond-false _ _ _ (many-is (c .args .emit-to) (creditsOf (marksOf s) (valuesOf s)) kept rows false many (c .count-rows .ensures) (le-ltb kept rows few))
+          ∙ cond-true _ _ _ (ap (short (b .layout) (b .room (b .memory (c .args .out .now)))) (sym shown) ∙ small));
+      written = refl;
     }
 
 pub put-requires : need.put-requires
@@ -61,7 +61,7 @@ put-requires g c κs =
     record {
       values = omega arith;
       marks = omega arith;
-      room = not-true _ (sym (c .fits-2 .ensures flat (flat-shaped (s .values .now) (s .marks .now) (c .count-rows .result) (c .is-marked-masked .result) (omega arith) (omega arith))) ∙ c .if-not-fits .left)
+      room = not-true _ (sym (c .fits-2 .ensures flat (flat-shaped (s .values .now) (s .marks .now) (c .count-rows .result) (c .is-marked-masked .result) (omega arith) (omega arith))) ∙ c .if-not-fits .left);
     }
 
 pub returns : need.returns
@@ -79,13 +79,13 @@ returns g c =
     let flat = flatColumn (s .values .now) (s .marks .now) rows masked in
     let many = kept-credits plain kept (s .marks .now) (s .values .now) in-marks in-values in
     let shown : flat ≡ answer (primitive (o .start) (o .rule)) (meaningOf s) (c .args .emit-to) =
-      ap₂ (flatColumn (s .values .now) (s .marks .now)) (c .count-rows .ensures) (c .is-marked-masked .ensures)
-      ∙ laid-is-shown (o .start) plain (c .args .emit-to) kept (s .marks .now) (s .values .now) in-marks in-values (omega (arith, c .count-rows .ensures)) (c .pre .unset) in
+    ap₂ (flatColumn (s .values .now) (s .marks .now)) (c .count-rows .ensures) (c .is-marked-masked .ensures)
+    ∙ laid-is-shown (o .start) plain (c .args .emit-to) kept (s .marks .now) (s .values .now) in-marks in-values (omega (arith, c .count-rows .ensures)) (c .pre .unset) in
     let small : short (b .layout) (b .room (b .memory (c .args .out .now))) flat ≡ false =
-      not-true _ (sym (c .fits-2 .ensures flat (flat-shaped (s .values .now) (s .marks .now) rows masked (omega arith) (omega arith))) ∙ c .if-not-fits .left) in
+    not-true _ (sym (c .fits-2 .ensures flat (flat-shaped (s .values .now) (s .marks .now) rows masked (omega arith) (omega arith))) ∙ c .if-not-fits .left) in
     record {
       answer = sym (
-        cond-false _ _ _ (many-is (c .args .emit-to) (creditsOf (marksOf s) (valuesOf s)) kept rows false many (c .count-rows .ensures) (le-ltb kept rows few))
-        ∙ cond-false _ _ _ (ap (short (b .layout) (b .room (b .memory (c .args .out .now)))) (sym shown) ∙ small));
-      written = c .put .ensures ∙ ap (λ col. stored (b .masks) (b .figures) col (b .memory (c .args .out .now))) shown
+          cond-false _ _ _ (many-is (c .args .emit-to) (creditsOf (marksOf s) (valuesOf s)) kept rows false many (c .count-rows .ensures) (le-ltb kept rows few))
+          ∙ cond-false _ _ _ (ap (short (b .layout) (b .room (b .memory (c .args .out .now)))) (sym shown) ∙ small));
+      written = c .put .ensures ∙ ap (λ col. stored (b .masks) (b .figures) col (b .memory (c .args .out .now))) shown;
     }

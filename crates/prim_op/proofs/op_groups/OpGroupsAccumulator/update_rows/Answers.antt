@@ -41,15 +41,15 @@ returns-in-Break-refuse g c =
     let many = kept-credits plain kept (s .marks .now) (s .values .now) in-marks in-values in
     let P : List Bool → Type 0 = λ ms. Unset (o .start) ms (valuesOf s) in
     let line =
-      c .in-Break-refuse .ensures tt .answer
-      ∙ ap (λ n. refusal (batchLine (s .«most_rows») (s .«most_groups») kept n (c .args .group-indices .now) (c .ticked .result) (c .args .total))) (c .len .ensures)
-      ∙ ap (λ q. refusal (batchLine (s .«most_rows») (s .«most_groups») kept (length rows) (c .args .group-indices .now) q (c .args .total))) (c .ticked .ensures)
-      ∙ update-line (o .start) (o .rule) (meaningOf s) kept many refl rows f (c .args .group-indices .now) (c .args .total) in
+    c .in-Break-refuse .ensures tt .answer
+    ∙ ap (λ n. refusal (batchLine (s .«most_rows») (s .«most_groups») kept n (c .args .group-indices .now) (c .ticked .result) (c .args .total))) (c .len .ensures)
+    ∙ ap (λ q. refusal (batchLine (s .«most_rows») (s .«most_groups») kept (length rows) (c .args .group-indices .now) q (c .args .total))) (c .ticked .ensures)
+    ∙ update-line (o .start) (o .rule) (meaningOf s) kept many refl rows f (c .args .group-indices .now) (c .args .total) in
     let p = err-from-errBy (c .from-residual .result) (c .from-residual .ensures .1) in
     rw (p .1, p .2) record {
       stays = record { kept-limit = c .pre .kept-limit; limit-values = c .pre .limit-values; limit-marks = omega arith; unset = subst P (sym same) (c .pre .unset) };
       answer = line;
-      after = meaning-same _ _ _ _ _ _ _ _ 0 (ap (λ ms. creditsOf ms (valuesOf s)) same) refl refl refl
+      after = meaning-same _ _ _ _ _ _ _ _ 0 (ap (λ ms. creditsOf ms (valuesOf s)) same) refl refl refl;
     }
 
 pub walk-requires : need.walk-requires
@@ -60,7 +60,7 @@ walk-requires g c κs =
     record {
       even = sym (a .even) ∙ c .len .ensures;
       named = all-weaker (λ k. k < c .args .total) (λ k. k < min (length (t .values .now)) (length (t .marks .now))) (λ k h. omega (arith, a .room, c .open .ensures .values-len, c .open .ensures .marks-len)) (c .args .group-indices .now) (a .below);
-      ticked = ticks-long (ticks (c .args .opt-filter .now)) (c .len .result) (length (c .args .group-indices .now)) (ap (λ q. valueOr q (c .len .result)) (sym (c .ticked .ensures)) ∙ a .filter) (a .even)
+      ticked = ticks-long (ticks (c .args .opt-filter .now)) (c .len .result) (length (c .args .group-indices .now)) (ap (λ q. valueOr q (c .len .result)) (sym (c .ticked .ensures)) ∙ a .filter) (a .even);
     }
 
 pub returns : need.returns
@@ -78,9 +78,9 @@ returns g c =
     let z = c .walk .last .visitor in
     let ps = visits gs rows (passes f (length gs)) in
     let line : refusal (batchLine (s .«most_rows») (s .«most_groups») kept (length rows) gs (mapped length f) total) ≡ None =
-      ap (λ n. refusal (batchLine (s .«most_rows») (s .«most_groups») kept n gs (mapped length f) total)) (sym (c .len .ensures))
-      ∙ ap (λ q. refusal (batchLine (s .«most_rows») (s .«most_groups») kept (c .len .result) gs q total)) (sym (c .ticked .ensures))
-      ∙ sym (c .in-Continue-refuse .ensures tt .answer) in
+    ap (λ n. refusal (batchLine (s .«most_rows») (s .«most_groups») kept n gs (mapped length f) total)) (sym (c .len .ensures))
+    ∙ ap (λ q. refusal (batchLine (s .«most_rows») (s .«most_groups») kept (c .len .result) gs q total)) (sym (c .ticked .ensures))
+    ∙ sym (c .in-Continue-refuse .ensures tt .answer) in
     let a = accepted (s .«most_rows») (s .«most_groups») kept (length rows) gs (mapped length f) total _ line .0 in
     let names = named (s .«most_rows») (s .«most_groups») kept (length rows) gs (mapped length f) total line in
     let told = c .walk .ensures .told ∙ told-memory (o .start) (o .rule) (t .values .now) (t .marks .now) plain′ ps in
@@ -91,33 +91,39 @@ returns g c =
     let in-values : kept ≤ length (s .values .now) = omega arith in
     let in-marks : kept ≤ length (s .marks .now) = omega arith in
     let all : Told (o .start) (o .rule) kept total plain plain′ (s .marks .now) (t .marks .now) (z .marks .now) (s .values .now) (t .values .now) (z .values .now) ps =
-      record {
-        order = a .order; room-values = in-values; room-marks = in-marks; below = visits-below total gs rows (passes f (length gs)) (a .below); fit = c .walk .ensures .fits; unset = c .pre .unset;
-        values-opened = c .open .ensures .values; values-told = ap (λ y. y .0) told;
-        marks-opened = λ e. c .open .ensures .marks e ∙ ap (λ ms. ms ++ replicate (total - kept) false) force;
-        marks-told = ap (λ y. y .1 .0) told;
-        was-plain = λ e. and-parts plain (not turns) (sym (c .open .ensures .switch) ∙ e) .0;
-        covered = all-covered kept total gs rows f plain turns plain′ (a .order) (a .even) names (c .open .ensures .switch) turned
-      } in
+    record {
+      order = a .order;
+      room-values = in-values;
+      room-marks = in-marks;
+      below = visits-below total gs rows (passes f (length gs)) (a .below);
+      fit = c .walk .ensures .fits;
+      unset = c .pre .unset;
+      values-opened = c .open .ensures .values;
+      values-told = ap (λ y. y .0) told;
+      marks-opened = λ e. c .open .ensures .marks e ∙ ap (λ ms. ms ++ replicate (total - kept) false) force;
+      marks-told = ap (λ y. y .1 .0) told;
+      was-plain = λ e. and-parts plain (not turns) (sym (c .open .ensures .switch) ∙ e) .0;
+      covered = all-covered kept total gs rows f plain turns plain′ (a .order) (a .even) names (c .open .ensures .switch) turned;
+    } in
     let zkept : z .«null_state» .kept ≡ total = five .2 ∙ c .open .ensures .kept in
     let zplain : isPlain (z .«null_state» .«seen_values») ≡ plain′ = ap (λ y. y .1 .1) told in
     let join = join-by (o .rule) in
     let cs = creditsOf (marksOf s) (valuesOf s) in
     let many : length cs ≡ kept = kept-credits plain kept (s .marks .now) (s .values .now) in-marks in-values in
     let credits =
-      ap (λ b. creditsOf (inForce b (z .«null_state» .kept) (z .marks .now)) (valuesOf z)) zplain
-      ∙ ap (λ k. creditsOf (inForce plain′ k (z .marks .now)) (take k (z .values .now))) zkept
-      ∙ credits-updated all join (λ b. refl) (λ x y. refl) (join-none (o .rule)) (passes f (length rows)) gs rows (ap (λ n. visits gs rows (passes f n)) (sym (a .even)))
-      ∙ ap (λ k. deal join (admitted (passes f (length rows)) gs (map seen rows)) (cs ++ replicate (total - k) None)) (sym many) in
+    ap (λ b. creditsOf (inForce b (z .«null_state» .kept) (z .marks .now)) (valuesOf z)) zplain
+    ∙ ap (λ k. creditsOf (inForce plain′ k (z .marks .now)) (take k (z .values .now))) zkept
+    ∙ credits-updated all join (λ b. refl) (λ x y. refl) (join-none (o .rule)) (passes f (length rows)) gs rows (ap (λ n. visits gs rows (passes f n)) (sym (a .even)))
+    ∙ ap (λ k. deal join (admitted (passes f (length rows)) gs (map seen rows)) (cs ++ replicate (total - k) None)) (sym many) in
     let start-kept : Unset (o .start) (marksOf z) (valuesOf z) =
-      rw (zplain, zkept) (unset-updated all join (λ b. refl) (λ x y. refl) (join-none (o .rule))) in
+    rw (zplain, zkept) (unset-updated all join (λ b. refl) (λ x y. refl) (join-none (o .rule))) in
     record {
       stays = record {
         kept-limit = omega (arith, a .room, five .4, c .open .ensures .groups);
         limit-values = omega (arith, five .0, five .4, c .open .ensures .groups, c .open .ensures .values-len);
         limit-marks = omega (arith, five .1, five .4, c .open .ensures .groups, c .open .ensures .marks-len);
-        unset = start-kept
+        unset = start-kept;
       };
       answer = sym line ∙ update-line (o .start) (o .rule) (meaningOf s) kept many refl rows f gs total;
-      after = meaning-same _ _ _ _ _ _ _ _ 0 credits (ap not zplain ∙ switch-is plain turns (isSome f || ltb 0 (nulls rows)) plain′ (c .open .ensures .switch) turned) (five .3 ∙ c .open .ensures .rows) (five .4 ∙ c .open .ensures .groups)
+      after = meaning-same _ _ _ _ _ _ _ _ 0 credits (ap not zplain ∙ switch-is plain turns (isSome f || ltb 0 (nulls rows)) plain′ (c .open .ensures .switch) turned) (five .3 ∙ c .open .ensures .rows) (five .4 ∙ c .open .ensures .groups);
     }

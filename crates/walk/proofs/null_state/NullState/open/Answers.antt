@@ -20,12 +20,12 @@ returns c =
       kept = refl;
       switch = c .turn .ensures .switch;
       marks = λ marked. elim (c .if-is-marked .came) [
-        then-is-marked w ↦
-          let e : t .kept ≡ s .kept = c .turn .ensures .kept in
-          ap (take total) (w .marks-is ∙ w .fill-part .ensures)
-          ∙ ap (λ n. take total (refilled (c .turn .last .marks) n total false)) e
-          ∙ forced-opened (isPlain (t .«seen_values»)) (s .kept) total (c .turn .last .marks) marked (c .pre .order) (omega arith)
-          ∙ ap (λ ms. ms ++ replicate (total - s .kept) false) (c .turn .ensures .marks)
-      | else-is-marked w ↦ absurd (both-ways _ (sym (c .is-marked .ensures) ∙ w .if-is-marked .left) (ap not marked))
-      ]
+        | then-is-marked w ↦
+            let e : t .kept ≡ s .kept = c .turn .ensures .kept in
+            ap (take total) (w .marks-is ∙ w .fill-part .ensures)
+            ∙ ap (λ n. take total (refilled (c .turn .last .marks) n total false)) e
+            ∙ forced-opened (isPlain (t .«seen_values»)) (s .kept) total (c .turn .last .marks) marked (c .pre .order) (omega arith)
+            ∙ ap (λ ms. ms ++ replicate (total - s .kept) false) (c .turn .ensures .marks)
+        | else-is-marked w ↦ absurd (both-ways _ (sym (c .is-marked .ensures) ∙ w .if-is-marked .left) (ap not marked))
+      ];
     }

@@ -16,5 +16,5 @@ returns-in-First c =
     record {
       kept = ap (λ e. s .kept - countOf e (s .kept)) is;
       switch = ap (λ e. cond (resets e) true (isPlain (s .«seen_values»))) is;
-      others = ap (inForce (isPlain (s .«seen_values»)) (s .kept - c .in-First .n)) (c .move-down .ensures) ∙ forced-moved (isPlain (s .«seen_values»)) (s .kept) (c .in-First .n) ms few (c .pre .within) ∙ ap (λ e. others e (inForce (isPlain (s .«seen_values»)) (s .kept) ms)) is
+      others = ap (inForce (isPlain (s .«seen_values»)) (s .kept - c .in-First .n)) (c .move-down .ensures) ∙ forced-moved (isPlain (s .«seen_values»)) (s .kept) (c .in-First .n) ms few (c .pre .within) ∙ ap (λ e. others e (inForce (isPlain (s .«seen_values»)) (s .kept) ms)) is;
     }

@@ -10,5 +10,5 @@ returns-then-not-is-marked c =
     record {
       kept = refl;
       switch = turned-switch (isPlain (s .«seen_values»)) (c .args .turns) (c .if-turns .taken);
-      marks = ap (take (s .kept)) (c .fill-part .ensures) ∙ forced-turned (isPlain (s .«seen_values»)) (s .kept) (c .args .marks .now) (sym (c .is-marked .ensures) ∙ c .if-not-is-marked .taken) (c .pre)
+      marks = ap (take (s .kept)) (c .fill-part .ensures) ∙ forced-turned (isPlain (s .«seen_values»)) (s .kept) (c .args .marks .now) (sym (c .is-marked .ensures) ∙ c .if-not-is-marked .taken) (c .pre);
     }
