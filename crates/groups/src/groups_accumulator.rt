@@ -2,7 +2,7 @@ ghost use mathlib.Core.Path.{_≡_};
 ghost use Rattle.std.specs.Results.{errPart};
 ghost use Rattle.columnar.specs.Views.{ticks};
 ghost use Rattle.buffers.specs.Memory.{stored};
-ghost use Rattle.groups.specs.Kind.{Kind, Laws};
+ghost use Rattle.groups.specs.Kind.{Kind, Laws, Commutes};
 ghost use Rattle.groups.specs.Tally.{Means, unless, update-refusal, updated, merge-refusal, merged, evaluate-refusal, answer, peek-refusal, peeked, forget-refusal, removed, convert-refusal, converted};
 use crate::emit::EmitTo;
 use buffers::buffers::Buffers;
@@ -94,6 +94,13 @@ pub trait GroupsAccumulator<'a> {
         ensures stays { λ r. ⌜ sound (now (self .exit)) ⌝ }
         ensures answer { λ r. ⌜ errPart r ≡ forget-refusal kind (meaning (now (self .entry))) «emit_to» ⌝ }
         ensures after { λ r. ⌜ meaning (now (self .exit)) ≡ unless (errPart r) (meaning (now (self .entry))) (removed kind (meaning (now (self .entry))) «emit_to») ⌝ };
+}
+
+/// An accumulator whose kind commutes: the join of two credits is alike in either order. What is credited to a group may
+/// then be taken in any order.
+pub trait Commuting<'a>: GroupsAccumulator<'a> {
+    fn commutes(&self) -> u8
+        ensures { λ _. ⌜ Commutes (Self·GroupsAccumulator .kind) ⌝ };
 }
 
 /// Writes the state rows of the groups asked for, and removes them: a peek, and then a forgetting.

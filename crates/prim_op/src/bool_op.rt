@@ -16,6 +16,7 @@ use columnar::boolean::BooleanColumnRows;
 use columnar::filter::Filter;
 use columnar::refusal::Refusal;
 use groups::emit::EmitTo;
+use groups::groups_accumulator::Commuting;
 use groups::groups_accumulator::GroupsAccumulator;
 use operations::operation::Operation;
 use walk::columns::BooleanColumnAccumulate;
@@ -110,5 +111,16 @@ pub impl<'a, 'm, O: Operation<bool> + 'a> GroupsAccumulator<'a> for OpGroupsAccu
 
     fn forget(&mut self, emit_to: EmitTo) -> Result<(), Refusal> {
         self.forget_groups(emit_to)
+    }
+}
+
+pub impl<'a, 'm, O: Operation<bool> + 'a> Commuting<'a> for OpGroupsAccumulator<
+    'm,
+    bool,
+    O,
+    Packed,
+> as BooleanCommutes {
+    fn commutes(&self) -> u8 {
+        0
     }
 }

@@ -16,6 +16,7 @@ use columnar::column::PrimitiveColumnRows;
 use columnar::filter::Filter;
 use columnar::refusal::Refusal;
 use groups::emit::EmitTo;
+use groups::groups_accumulator::Commuting;
 use groups::groups_accumulator::GroupsAccumulator;
 use operations::operation::Operation;
 use walk::columns::PrimitiveColumnAccumulate;
@@ -114,5 +115,16 @@ pub impl<'a, 'm, T: Copy + 'a, O: Operation<T>> GroupsAccumulator<'a> for OpGrou
 
     fn forget(&mut self, emit_to: EmitTo) -> Result<(), Refusal> {
         self.forget_groups(emit_to)
+    }
+}
+
+pub impl<'a, 'm, T: Copy + 'a, O: Operation<T>> Commuting<'a> for OpGroupsAccumulator<
+    'm,
+    T,
+    O,
+    Plain,
+> as PrimitiveCommutes {
+    fn commutes(&self) -> u8 {
+        0
     }
 }
