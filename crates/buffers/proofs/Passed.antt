@@ -1,36 +1,36 @@
--- The rows that a filter lets through, by row number.
+-- The rows that a filter lets through, as bits.
 use mathlib.Core.Path.{_≡_, refl, sym, ap, _∙_}
-use mathlib.Core.Bool.{Bool, false, _&&_}
-use mathlib.Core.List.{List, [], _∷_}
-use Prim.Native.Nat.{ℕ, zero, suc, _+_, _<_}
-use native.Mathlib.Omega.{arith}
-use lib.ListN.{length, getD}
-use Rattle.std.specs.Finite.{nth}
+use mathlib.Core.Bool.{Bool, _&&_}
+use mathlib.Core.List.{List, [], _∷_, map}
+use Prim.Native.Nat.{ℕ, zero, suc, _+_, _≤_}
+use lib.ListN.{length, take}
+use Rattle.std.specs.Iters.{counting}
 use Rattle.std.specs.declared.option.Option.{Option}
-use Rattle.std.specs.declared.option.Option.the-variants.{Some}
+use Rattle.std.specs.declared.option.Option.the-variants.{Some, None}
+use Rattle.std.proofs.shelf.Counted.{length-map-counting}
+use Rattle.std.proofs.shelf.Lists.{take-all}
+use native.Mathlib.Omega.{arith}
 use Rattle.columnar.specs.Cells.{Cell, ticked}
-use Rattle.columnar.specs.Packed.{bitAt}
-use Rattle.columnar.specs.Rows.{validAt, booleanCells}
-use Rattle.columnar.proofs.CellRows.{nth-booleans}
+use Rattle.columnar.specs.Packed.{bitAt, unpacked}
+use Rattle.columnar.specs.Rows.{cellsFrom, validAt, booleanCells}
 
--- which of n rows a filter lets through
-abbrev pub passed : List ℕ → ℕ → Option (List ℕ) → ℕ → ℕ → List Bool
-passed bytes start mask from n = ticked (booleanCells bytes start mask from n) n
+-- rows from a on, by a test for validity and one for the value
+ticked-counted : (p f : ℕ → Bool) (a n : ℕ) → ticked (cellsFrom p a (map f (counting a n))) n ≡ map (λ j. p j && f j) (counting a n)
+ticked-counted p f a zero = refl
+ticked-counted p f a (suc n) = ap (λ bs. (p a && f a) ∷ bs) (ticked-counted p f (a + 1) n)
 
-length-ticked : (ts : List (Cell Bool)) (n : ℕ) → length (ticked ts n) ≡ n
-length-ticked ts zero = refl
-length-ticked [] (suc n) = ap suc (length-ticked [] n)
-length-ticked (t ∷ ts) (suc n) = ap suc (length-ticked ts n)
+first-all : (f : ℕ → Bool) (n : ℕ) → take n (map f (counting 0 n)) ≡ map f (counting 0 n)
+first-all f n = take-all n (map f (counting 0 n)) (omega (arith, length-map-counting f 0 n))
 
-getD-ticked : (ts : List (Cell Bool)) (n j : ℕ) (t : Cell Bool) → j < n → nth ts j ≡ Some t → getD (ticked ts n) j false ≡ (t .valid && t .figure)
-getD-ticked ts zero j t h e = absurd (omega arith)
-getD-ticked [] (suc n) j t h e = let no-row : _≡_ {A = ℕ} 0 1 = cc in absurd (omega arith)
-getD-ticked (s ∷ ss) (suc n) zero t h e = let same : s ≡ t = cc in ap (λ (r : Cell Bool). r .valid && r .figure) same
-getD-ticked (s ∷ ss) (suc n) (suc j) t h e = getD-ticked ss n j t (omega arith) e
+-- a filter without a mask stands as its values alone
+pub passed-plain : (bytes : List ℕ) (start : ℕ) (mask : Option (List ℕ)) (from n : ℕ) → mask ≡ None → take n (unpacked bytes start n) ≡ ticked (booleanCells bytes start mask from n) n
+passed-plain bytes start mask from n e =
+    first-all (λ j. bitAt bytes (start + j)) n
+    ∙ sym (ap (λ m. ticked (booleanCells bytes start m from n) n) e ∙ ticked-counted (validAt None from) (λ j. bitAt bytes (start + j)) 0 n)
 
-pub length-passed : (bytes : List ℕ) (start : ℕ) (mask : Option (List ℕ)) (from n : ℕ) → length (passed bytes start mask from n) ≡ n
-length-passed bytes start mask from n = length-ticked (booleanCells bytes start mask from n) n
-
-pub passed-bit : (bytes : List ℕ) (start : ℕ) (mask : Option (List ℕ)) (from n j : ℕ) (b : Bool) → j < n → b ≡ (validAt mask from j && bitAt bytes (start + j)) → getD (passed bytes start mask from n) j false ≡ b
-passed-bit bytes start mask from n j b h e =
-    getD-ticked (booleanCells bytes start mask from n) n j _ h (nth-booleans bytes start mask from n j _ _ h refl refl) ∙ sym e
+-- and otherwise the bits are anded
+pub passed-anded : (bytes : List ℕ) (start : ℕ) (mask : Option (List ℕ)) (known : List ℕ) (from n : ℕ) → mask ≡ Some known
+    → take n (map (λ j. bitAt known (from + j) && bitAt bytes (start + j)) (counting 0 n)) ≡ ticked (booleanCells bytes start mask from n) n
+passed-anded bytes start mask known from n e =
+    first-all (λ j. bitAt known (from + j) && bitAt bytes (start + j)) n
+    ∙ sym (ap (λ m. ticked (booleanCells bytes start m from n) n) e ∙ ticked-counted (validAt (Some known) from) (λ j. bitAt bytes (start + j)) 0 n)
