@@ -6,3 +6,4 @@ pub mod Moves
 pub mod Named
 pub mod Lines
 pub mod Limits
+pub mod Seen

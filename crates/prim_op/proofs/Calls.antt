@@ -18,7 +18,7 @@ use Rattle.groups.specs.Lists.{allBelow, namesFrom, has}
 use Rattle.groups.specs.Lines.{batchLine}
 use Rattle.groups.specs.Tally.{Meaning, Conditions, refusal, differs, update-refusal}
 use Rattle.operations.specs.Primitive.{primitive, join-by}
-use Rattle.walk.specs.Seen.{inForce}
+use Rattle.groups.specs.Seen.{inForce}
 use Rattle.walk.specs.Visits.{visits, toldAll}
 use Rattle.prim_op.specs.Kept.{creditsOf, markedAt, combinedAt}
 use Rattle.prim_op.proofs.Updates.{group-of, forced-length, visits-all, names-has}

@@ -18,7 +18,7 @@ use Rattle.groups.specs.declared.emit.EmitTo.the-variants.{All, First}
 use Rattle.groups.specs.Emits.{taken, others, countOf, tooMany, resets}
 use Rattle.groups.specs.Kind.{by-nulls}
 use Rattle.groups.specs.Tally.{left-by}
-use Rattle.walk.specs.Seen.{inForce}
+use Rattle.groups.specs.Seen.{inForce}
 use Rattle.prim_op.specs.Kept.{creditsOf, Unset}
 use Rattle.prim_op.proofs.Updates.{forced-length}
 use Rattle.prim_op.proofs.Calls.{credits-length}

@@ -18,7 +18,7 @@ use Rattle.columnar.specs.Cells.{Cell, Ticks, seen, passes, allPass, nulls}
 use Rattle.groups.specs.Lists.{change, deal, has, namesFrom}
 use Rattle.groups.specs.Tally.{admitted}
 use Rattle.walk.specs.Visits.{visits}
-use Rattle.walk.specs.Seen.{inForce}
+use Rattle.groups.specs.Seen.{inForce}
 use Rattle.prim_op.specs.Kept.{creditsOf, Unset, markedAt, combinedAt}
 use Rattle.prim_op.proofs.Credits.{credits-told, unset-told, rows-dealt}
 

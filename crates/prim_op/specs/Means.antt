@@ -9,7 +9,7 @@ use lib.ListN.{length, take}
 use denote.Ref.{now}
 use Rattle.std.specs.declared.option.Option.{Option}
 use Rattle.groups.specs.Tally.{Meaning}
-use Rattle.walk.specs.Seen.{isPlain, inForce}
+use Rattle.groups.specs.Seen.{isPlain, inForce}
 use Rattle.prim_op.specs.declared.op_groups.OpGroupsAccumulator.{OpGroupsAccumulator}
 use Rattle.prim_op.specs.Kept.{creditsOf, Unset}
 

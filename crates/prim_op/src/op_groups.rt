@@ -4,7 +4,7 @@ ghost use mathlib.Core.List.{List, [], _∷_, _++_};
 ghost use Prim.Native.Nat.{ℕ, _-_, _<_, _≤_, min};
 ghost use lib.ListN.{length, set, getD, take, replicate};
 ghost use denote.Ref.{now as behind};
-ghost use Rattle.walk.specs.Seen.{isPlain};
+ghost use Rattle.groups.specs.Seen.{isPlain};
 ghost use Rattle.std.specs.Options.{Cases};
 ghost use Rattle.std.specs.Results.{errPart};
 ghost use Rattle.std.specs.shelf.Lists.{All};
@@ -28,10 +28,10 @@ use groups::emit::EmitTo;
 use groups::limits::MOST;
 use groups::moves::fill_part;
 use groups::moves::move_down;
+use groups::null_state::NullState;
 use operations::operation::Operation;
 use walk::accumulate::Visitor;
 use walk::columns::Accumulate;
-use walk::null_state::NullState;
 
 /// A value and a mark for each kept group, in lent memory, under an operation: the accumulator of the primitive and the
 /// boolean kinds, which differ in how rows and answers lie.

@@ -1,4 +1,3 @@
-pub mod Marking
 pub mod Plain
 pub mod Ticked
 pub mod Walks

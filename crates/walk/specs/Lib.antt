@@ -1,2 +1,1 @@
 pub mod Visits
-pub mod Seen

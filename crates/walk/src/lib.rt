@@ -1,3 +1,2 @@
 pub mod accumulate;
 pub mod columns;
-pub mod null_state;

@@ -1,6 +1,6 @@
 use mathlib.Core.Path.{sym}
 use native.Mathlib.Omega.{arith}
-use Rattle.walk.specs.Seen.{isPlain}
+use Rattle.groups.specs.Seen.{isPlain}
 use Rattle.prim_op.specs.Kept.{creditsOf}
 use Rattle.prim_op.specs.Means.{marksOf, valuesOf}
 use Rattle.prim_op.proofs.Calls.{kept-credits}

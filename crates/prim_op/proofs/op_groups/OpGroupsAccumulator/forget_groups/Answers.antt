@@ -2,7 +2,7 @@ use mathlib.Core.Path.{_≡_, refl, sym, ap, _∙_}
 use mathlib.Core.Bool.{true, false}
 use native.Mathlib.Omega.{arith}
 use Rattle.std.proofs.shelf.Tests.{cond-true, cond-false, lt-ltb, le-ltb}
-use Rattle.walk.specs.Seen.{isPlain}
+use Rattle.groups.specs.Seen.{isPlain}
 use Rattle.prim_op.specs.Kept.{creditsOf}
 use Rattle.prim_op.specs.Means.{marksOf, valuesOf}
 use Rattle.prim_op.proofs.Calls.{kept-credits}

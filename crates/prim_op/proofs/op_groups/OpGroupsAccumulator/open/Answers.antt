@@ -3,7 +3,7 @@ use mathlib.Core.List.{_++_}
 use Prim.Native.Nat.{_-_}
 use native.Mathlib.Omega.{arith}
 use lib.ListN.{take, replicate}
-use Rattle.walk.proofs.Marking.{take-refilled}
+use Rattle.groups.proofs.Marking.{take-refilled}
 use Rattle.prim_op.specs.Means.{valuesOf}
 use Rattle.prim_op.proofs.op_groups.OpGroupsAccumulator.open.Needs as need
 

@@ -7,8 +7,8 @@ use lib.ListN.{length, take, drop}
 use Rattle.std.proofs.shelf.Lists.{length-take-le}
 use Rattle.groups.specs.Emits.{countOf, others}
 use Rattle.groups.specs.Moves.{movedDown}
-use Rattle.walk.specs.Seen.{isPlain, inForce}
-use Rattle.walk.proofs.Marking.{take-moved}
+use Rattle.groups.specs.Seen.{isPlain, inForce}
+use Rattle.groups.proofs.Marking.{take-moved}
 use Rattle.prim_op.specs.Kept.{creditsOf, Unset}
 use Rattle.prim_op.specs.Means.{marksOf, valuesOf}
 use Rattle.prim_op.proofs.Updates.{forced-length}

@@ -11,7 +11,7 @@ use Rattle.buffers.proofs.Rooms.{flat-shaped}
 use Rattle.groups.specs.Emits.{countOf}
 use Rattle.groups.specs.Tally.{answer}
 use Rattle.operations.specs.Primitive.{primitive}
-use Rattle.walk.specs.Seen.{isPlain}
+use Rattle.groups.specs.Seen.{isPlain}
 use Rattle.prim_op.specs.Kept.{creditsOf}
 use Rattle.prim_op.specs.Means.{marksOf, valuesOf, meaningOf}
 use Rattle.prim_op.proofs.Calls.{kept-credits}

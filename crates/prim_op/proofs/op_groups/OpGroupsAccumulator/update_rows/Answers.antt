@@ -19,7 +19,7 @@ use Rattle.groups.specs.Lines.{batchLine}
 use Rattle.groups.specs.Tally.{refusal, update-refusal, unless, admitted}
 use Rattle.groups.proofs.Accepting.{accepted, named}
 use Rattle.operations.specs.Primitive.{primitive, join-by}
-use Rattle.walk.specs.Seen.{isPlain, inForce}
+use Rattle.groups.specs.Seen.{isPlain, inForce}
 use Rattle.walk.specs.Visits.{visits}
 use Rattle.prim_op.specs.Kept.{creditsOf, Unset}
 use Rattle.prim_op.specs.Means.{marksOf, valuesOf, meaningOf}

@@ -2,10 +2,10 @@ use mathlib.Core.Path.{_≡_, refl, sym, ap, _∙_}
 use mathlib.Core.Bool.{cond, true}
 use Prim.Native.Nat.{_-_, _≤_}
 use native.Mathlib.Omega.{arith}
 use Rattle.groups.specs.Emits.{countOf, others, resets}
-use Rattle.walk.specs.Seen.{isPlain, inForce}
-use Rattle.walk.proofs.Marking.{forced-moved}
-use Rattle.walk.proofs.null_state.NullState.remove.Needs as need
+use Rattle.groups.specs.Seen.{isPlain, inForce}
+use Rattle.groups.proofs.Marking.{forced-moved}
+use Rattle.groups.proofs.null_state.NullState.remove.Needs as need
 
 pub returns-in-First : need.returns-in-First
 returns-in-First c =

@@ -1,8 +1,8 @@
 use mathlib.Core.Path.{_≡_, refl, sym, ap, _∙_}
 use lib.ListN.{take}
-use Rattle.walk.specs.Seen.{isPlain}
-use Rattle.walk.proofs.Marking.{turned-switch, forced-turned}
-use Rattle.walk.proofs.null_state.NullState.turn.Needs as need
+use Rattle.groups.specs.Seen.{isPlain}
+use Rattle.groups.proofs.Marking.{turned-switch, forced-turned}
+use Rattle.groups.proofs.null_state.NullState.turn.Needs as need
 
 pub returns-then-not-is-marked : need.returns-then-not-is-marked
 returns-then-not-is-marked c =

@@ -6,8 +6,8 @@ use Prim.Native.Nat.{ℕ, zero, suc, _+_, _-_, _<_, _≤_}
 use native.Mathlib.Omega.{arith}
 use lib.ListN.{length, take, drop, replicate}
 use Rattle.std.proofs.shelf.Lists.{append-assoc, length-append, length-take-le, length-drop, length-replicate, take-at, drop-take, drop-replicate}
 use Rattle.groups.specs.Moves.{refilled, overFront, movedDown}
-use Rattle.walk.specs.Seen.{inForce}
+use Rattle.groups.specs.Seen.{inForce}
 
 pub take-refilled : {X : Type 0} (xs : List X) (from to : ℕ) (x : X) → from ≤ to → to ≤ length xs → take to (refilled xs from to x) ≡ take from xs ++ replicate (to - from) x
 take-refilled xs from to x h l =

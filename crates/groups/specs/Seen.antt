@@ -6,8 +6,8 @@ use mathlib.Core.Bool.{Bool, true, false}
 use mathlib.Core.List.{List}
 use Prim.Native.Nat.{ℕ}
 use lib.ListN.{take, replicate}
-use Rattle.walk.specs.declared.null_state.SeenValues.{SeenValues}
-use Rattle.walk.specs.declared.null_state.SeenValues.the-variants.{All, Marked}
+use Rattle.groups.specs.declared.null_state.SeenValues.{SeenValues}
+use Rattle.groups.specs.declared.null_state.SeenValues.the-variants.{All, Marked}
 
 abbrev pub isPlain : SeenValues → Bool
 isPlain All = true

@@ -3,11 +3,11 @@ ghost use mathlib.Core.Bool.{true, false, cond, not, _&&_};
 ghost use mathlib.Core.List.{_++_};
 ghost use Prim.Native.Nat.{_-_, _≤_};
 ghost use lib.ListN.{length, take, replicate};
 ghost use Rattle.groups.specs.Emits.{countOf, others, resets};
-ghost use Rattle.walk.specs.Seen.{isPlain, inForce};
-use groups::emit::EmitTo;
-use groups::moves::fill_part;
-use groups::moves::move_down;
+ghost use Rattle.groups.specs.Seen.{isPlain, inForce};
+use crate::emit::EmitTo;
+use crate::moves::fill_part;
+use crate::moves::move_down;
 
 /// Which groups have seen a value: each that is kept, or those that are marked.
 #[derive(Clone, Copy)]

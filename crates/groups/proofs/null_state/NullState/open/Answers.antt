@@ -5,11 +5,11 @@ use Prim.Native.Nat.{_-_, _≤_}
 use native.Mathlib.Omega.{arith}
 use lib.ListN.{length, take, replicate}
 use Rattle.std.proofs.shelf.Tests.{both-ways}
 use Rattle.groups.specs.Moves.{refilled}
-use Rattle.walk.specs.Seen.{isPlain}
-use Rattle.walk.proofs.Marking.{forced-opened}
-use Rattle.walk.proofs.null_state.NullState.open.Needs as need
-use Rattle.walk.proofs.null_state.NullState.open.Needs.{then-is-marked, else-is-marked}
+use Rattle.groups.specs.Seen.{isPlain}
+use Rattle.groups.proofs.Marking.{forced-opened}
+use Rattle.groups.proofs.null_state.NullState.open.Needs as need
+use Rattle.groups.proofs.null_state.NullState.open.Needs.{then-is-marked, else-is-marked}
 
 pub returns : need.returns
 returns c =
