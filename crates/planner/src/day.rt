@@ -21,6 +21,7 @@ pub struct Day {
     pub lines: Vec<usize>,
     pub groups: Vec<usize>,
     pub delivered: Vec<Option<bool>>,
+    pub signed: Vec<Option<bool>>,
     pub grams: Vec<Option<i64>>,
     pub parcels: Vec<Option<u64>>,
     pub floor: Vec<Option<i32>>,
@@ -35,6 +36,7 @@ impl Day {
             lines: Vec::new(heap),
             groups: Vec::new(heap),
             delivered: Vec::new(heap),
+            signed: Vec::new(heap),
             grams: Vec::new(heap),
             parcels: Vec::new(heap),
             floor: Vec::new(heap),
@@ -48,6 +50,7 @@ impl Day {
         self.lines.push(line)?;
         self.groups.push(row.group)?;
         self.delivered.push(row.delivered)?;
+        self.signed.push(row.signed)?;
         self.grams.push(row.grams)?;
         self.parcels.push(row.parcels)?;
         self.floor.push(row.floor)?;

@@ -4,6 +4,7 @@ use crate::fault::FaultFromAlloc;
 use crate::fault::FaultFromRefusal;
 use crate::fault::FaultFromRefused;
 use crate::pack::Series;
+use crate::pack::Ticks;
 use crate::pack::pack_series;
 use crate::plan::Plan;
 use crate::plan::Turn;
@@ -24,15 +25,15 @@ use std::alloc::Global;
 
 /// Memory to lend: an accumulator's, and an answer's.
 #[derive(Drop)]
-struct Memory<T> {
-    values: Vec<T>,
-    marks: Vec<bool>,
-    shown: Vec<T>,
-    bits: Vec<u8>,
+pub struct Memory<T> {
+    pub values: Vec<T>,
+    pub marks: Vec<bool>,
+    pub shown: Vec<T>,
+    pub bits: Vec<u8>,
 }
 
 impl<T: Clone + Copy> Memory<T> {
-    fn new(heap: Global, start: T, groups: usize) -> Result<Memory<T>, AllocError> {
+    pub fn new(heap: Global, start: T, groups: usize) -> Result<Memory<T>, AllocError> {
         Ok(Memory {
             values: vec![in heap; start; groups]?,
             marks: vec![in heap; false; groups]?,
@@ -42,11 +43,33 @@ impl<T: Clone + Copy> Memory<T> {
     }
 }
 
+/// Hands over a batch of which this is the column.
+pub fn hand_over<'a, T: GroupsAccumulator<'a>>(
+    acc: &mut T,
+    column: &T::Values,
+    ticks: &Ticks,
+    indices: &[usize],
+    turn: Turn,
+) -> Result<(), Refusal>
+    requires { ⌜ T·GroupsAccumulator .sound (now acc) ⌝ }
+    ensures { λ _. ⌜ T·GroupsAccumulator .sound (now (acc .exit)) ⌝ }
+{
+    let indices = indices.get(turn.from..turn.to).unwrap_or(&[]);
+    let (made, yes) = Mask::new(ticks.yes.as_slice(), turn.from, indices.len());
+    made?;
+    let (made, mask) = Mask::new(ticks.mask.as_slice(), turn.from, indices.len());
+    made?;
+    let (made, filter) = Filter::new(yes, mask);
+    made?;
+    acc.update_batch(column, indices, &filter, turn.total)
+}
+
 /// Hands a batch over.
-fn feed<'a, V: Copy, T: GroupsAccumulator<'a, Values = PrimitiveColumn<'a, V>>>(
+pub fn feed<'a, V: Copy, T: GroupsAccumulator<'a, Values = PrimitiveColumn<'a, V>>>(
     acc: &mut T,
     series: &'a Series<V>,
-    plan: &Plan,
+    ticks: &Ticks,
+    indices: &[usize],
     turn: Turn,
 ) -> Result<(), Refusal>
     requires { ⌜ T·GroupsAccumulator .sound (now acc) ⌝ }
@@ -57,14 +80,7 @@ fn feed<'a, V: Copy, T: GroupsAccumulator<'a, Values = PrimitiveColumn<'a, V>>>(
     made?;
     let (made, column) = PrimitiveColumn::new(values, mask);
     made?;
-    let (made, yes) = Mask::new(plan.ticks.yes.as_slice(), turn.from, values.len());
-    made?;
-    let (made, mask) = Mask::new(plan.ticks.mask.as_slice(), turn.from, values.len());
-    made?;
-    let (made, filter) = Filter::new(yes, mask);
-    made?;
-    let indices = plan.indices.get(turn.from..turn.to).unwrap_or(&[]);
-    acc.update_batch(&column, indices, &filter, turn.total)
+    hand_over(acc, &column, ticks, indices, turn)
 }
 
 fn push_plain<V: Copy>(values: &[V], shown: &mut Vec<Option<V>>) -> Result<(), Fault> {
@@ -106,7 +122,7 @@ fn take_answer<V: Copy>(
 }
 
 /// Closes groups, and adds what they show.
-fn close<'a, V: Copy, T: GroupsAccumulator<'a, Answers = PrimitiveBuffers<'a, V>>>(
+pub fn close<'a, V: Copy, T: GroupsAccumulator<'a, Answers = PrimitiveBuffers<'a, V>>>(
     acc: &mut T,
     emit_to: EmitTo,
     out: &mut PrimitiveBuffers<'a, V>,
@@ -137,7 +153,7 @@ fn lead<
     let mut shown = Vec::new(heap);
     for part in groups.chunks(plan.size.max(1)) {
         let turn = plan.propose(part)?;
-        let refusal = feed(acc, series, plan, turn).err();
+        let refusal = feed(acc, series, &plan.ticks, plan.indices.as_slice(), turn).err();
         let closes = plan.settle(turn, refusal)?;
         close(acc, EmitTo::First(closes), out, &mut shown)?;
     }
@@ -162,7 +178,7 @@ fn follow<
     let mut shown = Vec::new(heap);
     for turn in plan.turns.iter() {
         if turn.refusal.is_none() {
-            feed(acc, series, plan, *turn)?;
+            feed(acc, series, &plan.ticks, plan.indices.as_slice(), *turn)?;
         }
         close(acc, EmitTo::First(turn.closes), out, &mut shown)?;
     }

@@ -1,8 +1,10 @@
-//! The seven figures of a day's groups.
+//! The nine figures of a day's groups.
 use crate::day::Day;
 use crate::fault::Fault;
 use crate::feed::follow_with;
 use crate::feed::lead_with;
+use crate::flags::all_flags;
+use crate::flags::any_flags;
 use crate::plan::Plan;
 use operations::operation::Latest;
 use operations::operation::LatestStamp;
@@ -21,6 +23,8 @@ use std::alloc::Global;
 /// A figure for each group, in the order of their opening.
 #[derive(Drop)]
 pub struct Figures {
+    pub all_signed: Vec<Option<bool>>,
+    pub any_signed: Vec<Option<bool>>,
     pub grams: Vec<Option<i64>>,
     pub parcels: Vec<Option<u64>>,
     pub least_floor: Vec<Option<i32>>,
@@ -35,8 +39,12 @@ impl Figures {
     pub fn new(heap: Global, day: &Day, plan: &mut Plan) -> Result<Figures, Fault> {
         let floor = day.floor.as_slice();
         let altitude = day.altitude.as_slice();
+        let signed = day.signed.as_slice();
+        let grams = lead_with(heap, Sum, day.grams.as_slice(), day.groups.as_slice(), plan)?;
         Ok(Figures {
-            grams: lead_with(heap, Sum, day.grams.as_slice(), day.groups.as_slice(), plan)?,
+            all_signed: all_flags(heap, signed, plan)?,
+            any_signed: any_flags(heap, signed, plan)?,
+            grams,
             parcels: follow_with(heap, Sum, day.parcels.as_slice(), plan)?,
             least_floor: follow_with(heap, Min, floor, plan)?,
             greatest_floor: follow_with(heap, Max, floor, plan)?,

@@ -1,16 +1,20 @@
 //! Each group's figures for a day, from a file of rows.
 mod day;
+mod divide;
 mod fault;
 mod feed;
 mod figures;
+mod flags;
 mod options;
 mod pack;
+mod part;
 mod plan;
 mod report;
 mod row;
 mod table;
 
 use crate::day::Day;
+use crate::divide::divide;
 use crate::fault::Fault;
 use crate::fault::FaultDisplay;
 use crate::fault::FaultFromAlloc;
@@ -39,7 +43,8 @@ fn run(rt: &LibcRuntime) -> Result<(), Fault> {
     let day = read_day(rt, options.file.as_str())?;
     let mut plan = Plan::new(heap, &day, options.rows, options.groups)?;
     let figures = Figures::new(heap, &day, &mut plan)?;
-    print_report(rt, &day, &plan, &figures)
+    let division = divide(heap, &day, &plan, figures.grams.as_slice());
+    print_report(rt, &day, &plan, &figures, division)
 }
 
 fn main(rt: LibcRuntime) -> Result<(), Fault> {

@@ -107,3 +107,14 @@ impl Plan {
         Ok(turn.closes)
     }
 }
+
+/// The rows of the batches that were counted.
+pub fn rows_in(turns: &[Turn]) -> usize {
+    let mut n: usize = 0;
+    for turn in turns {
+        if turn.refusal.is_none() {
+            n = n.saturating_add(turn.to.saturating_sub(turn.from));
+        }
+    }
+    n
+}

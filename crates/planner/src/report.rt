@@ -1,11 +1,13 @@
 //! The report: a table with a line for each group, and below it what was done.
 use crate::day::Day;
+use crate::divide::Division;
 use crate::fault::Fault;
 use crate::fault::FaultFromIo;
 use crate::fault::FaultFromRefused;
 use crate::figures::Figures;
 use crate::plan::Plan;
 use crate::plan::Turn;
+use crate::plan::rows_in;
 use crate::row::FlawDisplay;
 use crate::table::Column;
 use crate::table::print_table;
@@ -43,11 +45,25 @@ fn depot_column(heap: Global, latest: &[Option<Stamp>]) -> Result<Column, Fault>
     Ok(column)
 }
 
+fn flag_column(heap: Global, head: &'static str, flags: &[Option<bool>]) -> Result<Column, Fault> {
+    let mut column = Column::new(heap, head);
+    for flag in flags {
+        match *flag {
+            Some(true) => column.push(heap, &Some("yes"))?,
+            Some(false) => column.push(heap, &Some("no"))?,
+            None => column.push::<&str>(heap, &None)?,
+        }
+    }
+    Ok(column)
+}
+
 fn print_groups(rt: &LibcRuntime, figures: &Figures) -> Result<(), Fault> {
     let heap = rt.alloc();
     let groups = figures.grams.len();
     let mut columns = Vec::new(heap);
     columns.push(number_column(heap, groups)?)?;
+    columns.push(flag_column(heap, "all signed", figures.all_signed.as_slice())?)?;
+    columns.push(flag_column(heap, "any signed", figures.any_signed.as_slice())?)?;
     columns.push(Column::of(heap, "grams", figures.grams.as_slice())?)?;
     columns.push(Column::of(heap, "parcels", figures.parcels.as_slice())?)?;
     columns.push(Column::of(heap, "least floor", figures.least_floor.as_slice())?)?;
@@ -63,16 +79,6 @@ fn print_groups(rt: &LibcRuntime, figures: &Figures) -> Result<(), Fault> {
     columns.push(second_column(heap, figures.latest.as_slice())?)?;
     columns.push(depot_column(heap, figures.latest.as_slice())?)?;
     print_table(rt, columns.as_slice(), groups)
-}
-
-fn rows_in(turns: &[Turn]) -> usize {
-    let mut n: usize = 0;
-    for turn in turns {
-        if turn.refusal.is_none() {
-            n = n.saturating_add(turn.to.saturating_sub(turn.from));
-        }
-    }
-    n
 }
 
 /// The null cells among the rows of the batches that were counted.
@@ -116,19 +122,21 @@ fn refused_in(turns: &[Turn]) -> usize {
 }
 
 fn print_nulls(rt: &LibcRuntime, day: &Day, turns: &[Turn]) -> Result<(), Fault> {
+    let signed = nulls_in(turns, day.signed.as_slice());
     let grams = nulls_in(turns, day.grams.as_slice());
     let parcels = nulls_in(turns, day.parcels.as_slice());
     let floor = nulls_in(turns, day.floor.as_slice());
     let altitude = nulls_in(turns, day.altitude.as_slice());
     let moment = nulls_in(turns, day.moment.as_slice());
-    let all = grams
+    let all = signed
+        .saturating_add(grams)
         .saturating_add(parcels)
         .saturating_add(floor)
         .saturating_add(altitude)
         .saturating_add(moment);
     println!(
         rt,
-        "nulls      {all}: grams {grams}, parcels {parcels}, floor {floor}, altitude {altitude}, second or depot {moment}"
+        "nulls      {all}: signed {signed}, grams {grams}, parcels {parcels}, floor {floor}, altitude {altitude}, second or depot {moment}"
     )?;
     Ok(())
 }
@@ -172,18 +180,50 @@ fn print_bad_lines(rt: &LibcRuntime, day: &Day) -> Result<(), Fault> {
     Ok(())
 }
 
-/// What was done. Of a refused batch nothing is counted.
-fn print_summary(rt: &LibcRuntime, day: &Day, plan: &Plan, groups: usize) -> Result<(), Fault> {
-    let turns = plan.turns.as_slice();
+/// What was counted. Of a refused batch nothing is.
+fn print_counts(rt: &LibcRuntime, day: &Day, turns: &[Turn], groups: usize) -> Result<(), Fault> {
     let read = day.lines.len();
     let counted = rows_in(turns);
-    let batches = turns.len();
-    let refused = refused_in(turns);
-    let bad = day.bad_lines.len();
     println!(rt, "rows       {counted} counted, of {read} read")?;
     print_nulls(rt, day, turns)?;
     print_filtered(rt, day, turns)?;
     println!(rt, "groups     {groups}")?;
+    Ok(())
+}
+
+fn print_division(rt: &LibcRuntime, division: Division) -> Result<(), Fault> {
+    let first = division.first;
+    let second = division.second;
+    let states = division.states;
+    let groups = division.groups;
+    print!(
+        rt,
+        "divided    two parts of {first} and {second} rows, {states} state rows merged: "
+    )?;
+    match division.differs {
+        Some(group) => println!(rt, "the figures differ, first in group {group}")?,
+        None => println!(rt, "the same figures in {groups} groups")?,
+    }
+    Ok(())
+}
+
+/// A part keeps all its groups to the end, so that a day may have too many of them for it.
+fn print_divided(rt: &LibcRuntime, divided: Result<Division, Fault>) -> Result<(), Fault> {
+    match divided {
+        Ok(division) => print_division(rt, division),
+        Err(Fault::Refused(refusal)) => {
+            let number = refusal.number();
+            println!(rt, "divided    refusal {number}, {refusal:?}")?;
+            Ok(())
+        }
+        Err(fault) => Err(fault),
+    }
+}
+
+fn print_batches(rt: &LibcRuntime, day: &Day, turns: &[Turn]) -> Result<(), Fault> {
+    let batches = turns.len();
+    let refused = refused_in(turns);
+    let bad = day.bad_lines.len();
     println!(rt, "batches    {batches}, of which refused {refused}")?;
     print_refused(rt, day, turns)?;
     println!(rt, "bad lines  {bad}")?;
@@ -195,8 +235,12 @@ pub fn print_report(
     day: &Day,
     plan: &Plan,
     figures: &Figures,
+    divided: Result<Division, Fault>,
 ) -> Result<(), Fault> {
+    let turns = plan.turns.as_slice();
     print_groups(rt, figures)?;
     println!(rt, "")?;
-    print_summary(rt, day, plan, figures.grams.len())
+    print_counts(rt, day, turns, figures.grams.len())?;
+    print_divided(rt, divided)?;
+    print_batches(rt, day, turns)
 }

@@ -1,4 +1,4 @@
-//! A line of the file as a row: eight fields, each of them checked.
+//! A line of the file as a row: nine fields, each of them checked.
 use operations::operation::Stamp;
 use std::fmt;
 use std::num::IntErrorKind;
@@ -6,15 +6,16 @@ use std::num::ParseIntError;
 use std::str::FromStr;
 
 /// The first line of every file.
-pub const HEADER: &str = "group,delivered,grams,parcels,floor,altitude,second,depot";
+pub const HEADER: &str = "group,delivered,signed,grams,parcels,floor,altitude,second,depot";
 
-const FIELDS: usize = 8;
+const FIELDS: usize = 9;
 
 /// What a line says; an empty field is a null.
 #[derive(Clone, Copy)]
 pub struct Row {
     pub group: usize,
     pub delivered: Option<bool>,
+    pub signed: Option<bool>,
     pub grams: Option<i64>,
     pub parcels: Option<u64>,
     pub floor: Option<i32>,
@@ -27,7 +28,7 @@ pub struct Row {
 pub enum Flaw {
     FieldCount(usize),
     NoGroup,
-    NoTick,
+    NoTick(&'static str),
     NoNumber(&'static str, IntErrorKind),
 }
 
@@ -36,7 +37,7 @@ pub impl fmt::Display for Flaw as FlawDisplay {
         match *self {
             Flaw::FieldCount(n) => write!(f, "the number of fields is {n} and not {FIELDS}"),
             Flaw::NoGroup => write!(f, "group is empty"),
-            Flaw::NoTick => write!(f, "delivered is neither yes nor no nor empty"),
+            Flaw::NoTick(name) => write!(f, "{name} is neither yes nor no nor empty"),
             Flaw::NoNumber(name, IntErrorKind::PosOverflow) => write!(f, "{name} is too large"),
             Flaw::NoNumber(name, IntErrorKind::NegOverflow) => write!(f, "{name} is too small"),
             Flaw::NoNumber(name, _) => write!(f, "{name} is not a whole number"),
@@ -57,12 +58,12 @@ fn number<F: FromStr<Err = ParseIntError> + Drop>(
     }
 }
 
-fn tick(text: &str) -> Result<Option<bool>, Flaw> {
+fn tick(name: &'static str, text: &str) -> Result<Option<bool>, Flaw> {
     match text {
         "" => Ok(None),
         "yes" => Ok(Some(true)),
         "no" => Ok(Some(false)),
-        _ => Err(Flaw::NoTick),
+        _ => Err(Flaw::NoTick(name)),
     }
 }
 
@@ -89,7 +90,8 @@ pub fn parse_row(line: &str) -> Result<Row, Flaw> {
     }
     let mut fields = line.split(',');
     let group = number::<usize>("group", fields.next().unwrap_or("").trim())?;
-    let delivered = tick(fields.next().unwrap_or("").trim())?;
+    let delivered = tick("delivered", fields.next().unwrap_or("").trim())?;
+    let signed = tick("signed", fields.next().unwrap_or("").trim())?;
     let grams = number::<i64>("grams", fields.next().unwrap_or("").trim())?;
     let parcels = number::<u64>("parcels", fields.next().unwrap_or("").trim())?;
     let floor = number::<i32>("floor", fields.next().unwrap_or("").trim())?;
@@ -102,6 +104,7 @@ pub fn parse_row(line: &str) -> Result<Row, Flaw> {
     Ok(Row {
         group,
         delivered,
+        signed,
         grams,
         parcels,
         floor,
