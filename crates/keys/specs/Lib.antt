@@ -1,0 +1,3 @@
+pub mod Equivalence
+pub mod Hash
+pub mod Same
