@@ -1,0 +1,4 @@
+pub mod accumulator;
+pub mod blanks;
+pub mod shows;
+pub mod span;
