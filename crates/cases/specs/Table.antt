@@ -15,6 +15,7 @@ use Rattle.columnar.specs.Refusals.{numberOf, bitsRefusal, offsetsRefusal}
 use Rattle.buffers.specs.Memory.{Room, valuesLayout}
 use Rattle.groups.specs.declared.emit.EmitTo.the-variants.{All, First}
 use Rattle.groups.specs.Tally.{Means, refusal, with-credits, updated, merge-refusal, converted, convert-refusal, answer}
+use Rattle.cases.specs.Views.{View-cases, Buffer-cases}
 use Rattle.cases.specs.Calls.{Call, Reply, update, merge, convert, evaluate, peek, forget, accepted, answered, refused, handed-out}
 use Rattle.cases.specs.Words.{sums, ands, ors, xors, run, narrow, decide, meant, states, ending, plain, null, shown, bits, null-bit, room, ample, yes, no, null-tick, all, first, look, half-null, two, holding, numbered, is-number}
 
@@ -290,6 +291,8 @@ pub record Reading-cases : Type 0 where
 -- ── the table ────────────────────────────────────────────────────────────
 pub record Worked-cases : Type 0 where
   pub columns : Column-cases
+  pub views : View-cases
+  pub of-buffers : Buffer-cases
   pub of-sums : Sum-cases
   pub refusals : Refusal-cases
   pub peeks : Peek-cases

@@ -12,6 +12,7 @@ use Rattle.buffers.specs.Memory.{Room, valuesLayout, short}
 use Rattle.groups.specs.Lists.{zip, allBelow, namesFrom}
 use Rattle.groups.specs.Tally.{Means, Conditions, refusal, convert-conditions, differs, merge-refusal, with-states, converted, convert-refusal}
 use Rattle.cases.specs.Words.{sums, is-number}
+use Rattle.cases.specs.Views.{View-cases, Buffer-cases}
 use Rattle.cases.specs.Table.{Column-cases, Sum-cases, Refusal-cases, Peek-cases, Merge-cases, Convert-cases, Division-cases, Boolean-cases, Reading-cases}
 use Rattle.cases.proofs.worked_cases.Needs as need
 
@@ -55,6 +56,47 @@ merge-never-7-holds m rows groups total =
 by-rows-and-limit-holds : (m k : Means sums) (rows : List (Cell ℤ)) (ticks : Ticks) (out : Room) → m .most-rows ≡ k .most-rows → convert-refusal sums valuesLayout m rows ticks out ≡ convert-refusal sums valuesLayout k rows ticks out
 by-rows-and-limit-holds m k rows ticks out same =
     ap (λ most. refusal (convert-conditions (ltb most (length rows)) (differs ticks (length rows)) (short valuesLayout out (converted sums rows ticks)))) same
+
+views-hold : View-cases
+views-hold =
+    record {
+      mask-from-bit-two = refl;
+      mask-over-two-bytes = refl;
+      no-mask = refl;
+      booleans-by-two-starts = refl;
+      filter-rows = refl;
+      filter-lets-through = refl;
+      filter-without-mask = refl;
+      filter-not-given = refl;
+      filter-as-mask = refl;
+      last-bit = refl;
+      bit-past-the-end = refl;
+      last-list = refl;
+      list-past-the-end = refl;
+      lists-from-offset-two = refl;
+      offsets-from-two = refl;
+      no-offset = refl;
+      one-offset = refl;
+      negative-offset = refl;
+      last-at-the-end = refl;
+      last-past-the-end = refl;
+      equal-lengths = refl;
+      shorter-mask = refl;
+      longer-mask = refl;
+      lengths-number = refl;
+      end-past-the-word = refl
+    }
+
+buffers-hold : Buffer-cases
+buffers-hold =
+    record {
+      laid-with-a-mask = refl;
+      laid-without-a-mask = refl;
+      held-again = refl;
+      nine-bits = refl;
+      packed-values = refl;
+      packed-held-again = refl
+    }
 
 columns-hold : Column-cases
 columns-hold =
@@ -248,6 +290,8 @@ pub returns : need.returns
 returns c =
     record {
       columns = columns-hold;
+      views = views-hold;
+      of-buffers = buffers-hold;
       of-sums = of-sums-hold;
       refusals = refusals-hold;
       peeks = peeks-hold;
