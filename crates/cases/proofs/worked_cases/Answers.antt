@@ -84,7 +84,7 @@ views-hold =
       shorter-mask = refl;
       longer-mask = refl;
       lengths-number = refl;
-      end-past-the-word = refl
+      end-past-the-word = refl;
     }
 
 buffers-hold : Buffer-cases
@@ -95,7 +95,7 @@ buffers-hold =
       held-again = refl;
       nine-bits = refl;
       packed-values = refl;
-      packed-held-again = refl
+      packed-held-again = refl;
     }
 
 columns-hold : Column-cases
