@@ -1,3 +1,5 @@
+#![tactic(auto)]
+
 pub mod accumulator;
 pub mod blanks;
 pub mod shows;

@@ -1,3 +1,5 @@
+#![tactic(auto)]
+
 pub mod admitted;
 pub mod buffers;
 pub mod nulls;

@@ -1,3 +1,5 @@
+#![tactic(auto)]
+
 ghost use Rattle.cases.specs.Table.{WorkedCases};
 
 /// Worked cases of the definitions, each by computing it.

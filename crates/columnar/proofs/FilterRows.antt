@@ -1,8 +1,8 @@
 -- A filter that is given, by row number.
-use Rattle.std.proofs.Common.{◌≡◌, ℕ, ◌+◌, ◌<◌, ◌≤◌, Bool, true, false, ◌&&◌, List, length, Some, None, Option, unwrap_or, sym, refl, ap, ◌∙◌}
+use Rattle.std.proofs.Common.{◌≡◌, ℕ, ◌+◌, ◌<◌, ◌≤◌, Bool, true, ◌&&◌, List, length, Some, None, Option, unwrap_or, sym, refl, ap, ◌∙◌}
 use Rattle.std.specs.List.{slice_get}
 use Rattle.std.specs.Option.{option_map}
-use Rattle.columnar.specs.Cells.{Cell, Ticks}
+use Rattle.columnar.specs.Cells.{Cell}
 use Rattle.columnar.specs.Packed.{bit_at}
 use Rattle.columnar.specs.Rows.{valid_at, ticks_of}
 use Rattle.columnar.proofs.CellRows.{length_booleans, nth_booleans_past, nth_booleans}

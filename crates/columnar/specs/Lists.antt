@@ -6,7 +6,7 @@
 --     list_at os items j    the items from offset j up to, not including, offset j + 1
 --     list_row os items j   row j, absent past the end
 --     list_cells os items   all rows: list columns carry no masks
-use Rattle.std.specs.Prelude.{ℕ, ◌+◌, ◌-◌, ◌<◌, Bool, true, false, cond, List, [], ◌∷◌, map, length, ℤ, pos, negsuc, ◌≤ℤ◌, Some, None, Option, nat_lt, slice_index_or}
+use Rattle.std.specs.Prelude.{ℕ, ◌+◌, ◌-◌, ◌<◌, true, cond, List, map, length, ℤ, pos, negsuc, ◌≤ℤ◌, Some, None, Option, nat_lt, slice_index_or}
 use Rattle.std.specs.List.{between, range_with_len}
 use Rattle.columnar.specs.Cells.{Cell, cell}
 

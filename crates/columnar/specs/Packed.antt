@@ -6,7 +6,7 @@
 --     bytes_for n             how many bytes n bits take: one for each eight begun
 --     byte_at bits k          byte k of bits that are packed, with zeros after the last bit
 --     packed bits            the bytes of bits, from bit 0 on
-use Rattle.std.specs.Prelude.{ℕ, ◌+◌, ◌*◌, ◌/◌, ◌%◌, ◌^◌, Bool, true, false, cond, List, [], ◌∷◌, map, length, Some, None, sum_by, Option, ◌==◌, nat_lt, slice_index, slice_index_or}
+use Rattle.std.specs.Prelude.{ℕ, ◌+◌, ◌*◌, ◌/◌, ◌%◌, ◌^◌, Bool, false, cond, List, map, length, Some, None, sum_by, Option, ◌==◌, nat_lt, slice_index, slice_index_or}
 use Rattle.std.specs.List.{range_with_len}
 
 abbrev pub bit_at : List ℕ → ℕ → Bool

@@ -4,7 +4,7 @@
 --     bits_refusal b s n      1: start plus length exceeds eight times the bytes
 --     lengths_refusal m n     2: a column's mask and values differ in length
 --     offsets_refusal os n    3: no offset, a negative one, one below its predecessor, or a last one above the items
-use Rattle.std.specs.Prelude.{ℕ, ◌+◌, ◌*◌, Bool, true, false, cond, not, ◌||◌, List, [], ◌∷◌, ℤ, pos, Some, None, Option, ◌==◌, int_lt, nat_lt}
+use Rattle.std.specs.Prelude.{ℕ, ◌+◌, ◌*◌, Bool, true, cond, not, ◌||◌, List, [], ◌∷◌, ℤ, pos, Some, None, Option, ◌==◌, int_lt, nat_lt}
 use Rattle.columnar.specs.declared.refusal.Refusal.{Refusal}
 use Rattle.columnar.specs.declared.refusal.Refusal.TheVariants.{BitsOutOfBytes, MaskLength, Offsets, SpanOrder, TooManyRows, IndexCount, FilterLength, TotalBelowKept, TotalAboveLimit, IndexAboveTotal, GroupNotNamed, TooManyPairs, TooManyGroups, ShortBuffer}
 

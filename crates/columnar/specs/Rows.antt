@@ -6,7 +6,7 @@
 --     boolean_cells b s m f n  the cells of n packed booleans under an optional mask
 --     ticks_of v s m f n       the ticks of a filter, given by its optional value bytes
 --     Within bytes s n        n rows from bit s on lie within optional bytes
-use Rattle.std.specs.Prelude.{ℕ, ◌+◌, ◌*◌, ◌≤◌, Bool, true, false, cond, List, [], ◌∷◌, map, length, Some, None, Option}
+use Rattle.std.specs.Prelude.{ℕ, ◌+◌, ◌*◌, ◌≤◌, Bool, true, List, [], ◌∷◌, length, Some, None, Option}
 use Rattle.columnar.specs.Packed.{bit_at, unpacked}
 use Rattle.columnar.specs.Cells.{Cell, cell, Ticks}
 

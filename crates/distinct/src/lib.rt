@@ -1,3 +1,5 @@
+#![tactic(auto)]
+
 ghost use Rattle.groups.specs.Kind.{Laws, Commutes};
 ghost use Rattle.distinct.specs.Distinct.{distinct, CountsDifferentValues};
 

@@ -1,3 +1,5 @@
+#![tactic(auto)]
+
 pub mod checks;
 pub mod emit;
 pub mod groups_accumulator;

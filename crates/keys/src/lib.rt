@@ -1,2 +1,4 @@
+#![tactic(auto)]
+
 pub mod hash;
 pub mod key;

@@ -1,3 +1,5 @@
+#![tactic(auto)]
+
 pub mod boolean;
 pub mod laws;
 pub mod operation;

@@ -1,3 +1,5 @@
+#![tactic(auto)]
+
 //! Each group's figures for a day, from a file of rows.
 mod day;
 mod divide;

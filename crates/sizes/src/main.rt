@@ -1,3 +1,5 @@
+#![tactic(auto)]
+
 //! Batches at the limits of an accumulator: what is accepted, and by which number the others are refused.
 use buffers::buffers::PrimitiveBuffers;
 use columnar::column::PrimitiveColumn;

@@ -4,8 +4,8 @@ use Rattle.buffers.proofs.Packing.{byte_fits, byte_yes, byte_no, byte_all}
 use Rattle.buffers.proofs.pack.packed_byte.Goals as goal
 use Rattle.buffers.proofs.pack.packed_byte.Goals.{then-get, else-get}
 
-pub overflow-add-byte : goal.overflow-add-byte
-overflow-add-byte g c = omega (arith, byte_fits (take c.args.n (g.S.Source.items c.args.bits.now)) c.args.k c.loop-i.i c.loop-i.byte c.loop-i.invariant (omega arith))
+pub overflow_add-byte : goal.overflow_add-byte
+overflow_add-byte g c = omega (arith, byte_fits (take c.args.n (g.S.Source.items c.args.bits.now)) c.args.k c.loop-i.i c.loop-i.byte c.loop-i.invariant (omega arith))
 
 pub loop-i-preserved : goal.loop-i-preserved
 loop-i-preserved g c =

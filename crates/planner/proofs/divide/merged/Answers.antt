@@ -2,5 +2,5 @@ use Rattle.std.proofs.Common.{refl}
 use Rattle.planner.proofs.divide.merged.Goals as goal
 
 -- a new accumulator is sound
-pub merge-part-requires : goal.merge-part-requires
-merge-part-requires c = ((refl, tt), c.new-acc.ensures.sound)
+pub merge_part-requires : goal.merge_part-requires
+merge_part-requires c = ((refl, tt), c.new-acc.ensures.sound)

@@ -9,7 +9,7 @@ loop-group-init g c = (
   (tt, tt),
   refl,
   pairs_none c.args.groups.now c.args.values.now _ c.requires.named
-      (ap pairs-rest c.into-iter-group-iterator.ensures.into-iter-gives ∙ (cc)),
+      (ap pairs-rest c.into_iter-group-iterator.ensures.into_iter_gives ∙ (cc)),
 )
 
 pub visit-requires : goal.visit-requires

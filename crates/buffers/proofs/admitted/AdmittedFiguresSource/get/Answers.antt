@@ -6,4 +6,4 @@ pub admitted-requires : goal.admitted-requires
 admitted-requires g c = simp length_kept at c.requires
 
 pub returns : goal.returns
-returns g c = made_at _ _ c.args.j _ _ c.requires c.admitted.ensures (c.unwrap-or.ensures ∙ filled c.args.self.now.filler c.admitted.result)
+returns g c = made_at _ _ c.args.j _ _ c.requires c.admitted.ensures (c.unwrap_or.ensures ∙ filled c.args.self.now.filler c.admitted.result)

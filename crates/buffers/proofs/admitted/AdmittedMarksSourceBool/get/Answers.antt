@@ -5,4 +5,4 @@ pub admitted-requires : goal.admitted-requires
 admitted-requires g c = simp length_kept at c.requires
 
 pub returns : goal.returns
-returns g c = made_at _ _ c.args.j _ _ c.requires c.admitted.ensures c.is-some.ensures
+returns g c = made_at _ _ c.args.j _ _ c.requires c.admitted.ensures c.is_some.ensures

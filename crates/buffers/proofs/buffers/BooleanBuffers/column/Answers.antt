@@ -8,8 +8,8 @@ use Rattle.buffers.proofs.buffers.BooleanBuffers.column.Goals as goal
 pub returns-then-not-self : goal.returns-then-not-self
 returns-then-not-self c =
     let s = c.args.self.now in
-    let n = c.readable-rows-rows.result in
-    let is = c.readable-rows-rows.ensures in
+    let n = c.readable_rows-rows.result in
+    let is = c.readable_rows-rows.ensures in
     let within = readable_within (8 * length s.values.now) (length s.bits.now) s.masked s.len n is in
     let made = mask_made c.new.result.0 _ (length s.values.now) n _ _ within c.new.ensures.refused c.new.ensures.len c.new.ensures.start in
     c.plain.ensures
@@ -21,8 +21,8 @@ returns-then-not-self c =
 pub returns : goal.returns
 returns c =
     let s = c.args.self.now in
-    let n = c.readable-rows-rows.result in
-    let is = c.readable-rows-rows.ensures in
+    let n = c.readable_rows-rows.result in
+    let is = c.readable_rows-rows.ensures in
     let within = readable_within (8 * length s.values.now) (length s.bits.now) s.masked s.len n is in
     let made = mask_made c.new.result.0 _ (length s.values.now) n _ _ within c.new.ensures.refused c.new.ensures.len c.new.ensures.start in
     let bits = readable_masked (8 * length s.values.now) (length s.bits.now) s.masked s.len n c.if-not-self.false is in

@@ -7,18 +7,18 @@ use Rattle.buffers.proofs.buffers.PrimitiveBuffers.column.Goals as goal
 pub returns-then-not-self : goal.returns-then-not-self
 returns-then-not-self g c =
     let s = c.args.self.now in
-    let n = c.readable-rows-rows.result in
+    let n = c.readable_rows-rows.result in
     let whole : n - 0 ≡ n = omega arith in
     c.plain.ensures
     ∙ ap (λ k. column_cells None 0 (take k s.values.now)) whole
     ∙ held_plain s.masked s.bits.now n (take n s.values.now) c.if-not-self.true
-    ∙ ap (λ k. held_as s.masked s.bits.now k (take k s.values.now)) c.readable-rows-rows.ensures
+    ∙ ap (λ k. held_as s.masked s.bits.now k (take k s.values.now)) c.readable_rows-rows.ensures
 
 pub returns : goal.returns
 returns g c =
     let s = c.args.self.now in
-    let n = c.readable-rows-rows.result in
-    let is = c.readable-rows-rows.ensures in
+    let n = c.readable_rows-rows.result in
+    let is = c.readable_rows-rows.ensures in
     let whole : n - 0 ≡ n = omega arith in
     let bits = readable_masked (length s.values.now) (length s.bits.now) s.masked s.len n c.if-not-self.false is in
     let made = mask_made c.new.result.0 _ (length s.bits.now) n _ _ bits c.new.ensures.refused c.new.ensures.len c.new.ensures.start in

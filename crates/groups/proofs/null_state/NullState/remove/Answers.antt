@@ -13,5 +13,5 @@ returns-in-First c =
     record {
       kept = ap (λ e. s.kept - count_of e s.kept) is;
       switch = ap (λ e. cond (resets e) true (is_plain s.seen_values)) is;
-      others = ap (in_force (is_plain s.seen_values) (s.kept - c.in-First.n)) c.move-down.ensures ∙ forced_moved (is_plain s.seen_values) s.kept c.in-First.n ms few c.requires.within ∙ ap (λ e. others e (in_force (is_plain s.seen_values) s.kept ms)) is;
+      others = ap (in_force (is_plain s.seen_values) (s.kept - c.in-First.n)) c.move_down.ensures ∙ forced_moved (is_plain s.seen_values) s.kept c.in-First.n ms few c.requires.within ∙ ap (λ e. others e (in_force (is_plain s.seen_values) s.kept ms)) is;
     }

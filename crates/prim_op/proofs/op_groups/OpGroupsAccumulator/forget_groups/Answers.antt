@@ -14,7 +14,7 @@ returns-then-count-kept g c =
     let many = kept_credits (is_plain s.null_state.seen_values) kept s.marks.now s.values.now (omega arith) (omega arith) in
     record {
       stays = c.requires;
-      answer = sym (cond-true _ _ _ (many_is c.args.emit-to (credits_of (marks_of s) (values_of s)) kept c.count.result true many c.count.ensures (lt-ltb kept c.count.result c.if-count-kept.true)));
+      answer = sym (cond-true _ _ _ (many_is c.args.emit_to (credits_of (marks_of s) (values_of s)) kept c.count.result true many c.count.ensures (lt-ltb kept c.count.result c.if-count-kept.true)));
       after = refl;
     }
 
@@ -25,6 +25,6 @@ returns g c =
     let many = kept_credits (is_plain s.null_state.seen_values) kept s.marks.now s.values.now (omega arith) (omega arith) in
     record {
       stays = c.remove.ensures.stays;
-      answer = sym (cond-false _ _ _ (many_is c.args.emit-to (credits_of (marks_of s) (values_of s)) kept c.count.result false many c.count.ensures (le-ltb kept c.count.result c.if-count-kept.false)));
+      answer = sym (cond-false _ _ _ (many_is c.args.emit_to (credits_of (marks_of s) (values_of s)) kept c.count.result false many c.count.ensures (le-ltb kept c.count.result c.if-count-kept.false)));
       after = c.remove.ensures.after;
     }

@@ -13,10 +13,10 @@ returns g c =
     let k = primitive o.start o.rule in
     let m = meaning_of c.args.self.now in
     let rows = g.C.Rows.cells c.args.values.now in
-    let gs = c.args.group-indices.now in
+    let gs = c.args.group_indices.now in
     let total = c.args.total in
     record {
-      stays = c.update-rows.ensures.stays;
-      answer = c.update-rows.ensures.answer ∙ ap (λ f. update_refusal k m rows f gs total) c.none-none.ensures ∙ merge_refusal_is o.start o.rule m rows gs total;
-      after = c.update-rows.ensures.after ∙ ap (λ f. unless (result_err c.update-rows.result) m (updated k m rows f gs total)) c.none-none.ensures ∙ ap (unless (result_err c.update-rows.result) m) (merged_is o.start o.rule m rows gs total);
+      stays = c.update_rows.ensures.stays;
+      answer = c.update_rows.ensures.answer ∙ ap (λ f. update_refusal k m rows f gs total) c.none-none.ensures ∙ merge_refusal_is o.start o.rule m rows gs total;
+      after = c.update_rows.ensures.after ∙ ap (λ f. unless (result_err c.update_rows.result) m (updated k m rows f gs total)) c.none-none.ensures ∙ ap (unless (result_err c.update_rows.result) m) (merged_is o.start o.rule m rows gs total);
     }

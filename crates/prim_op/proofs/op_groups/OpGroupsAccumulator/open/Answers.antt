@@ -11,12 +11,12 @@ returns g c =
       kept = c.open.ensures.kept;
       switch = c.open.ensures.switch;
       values =
-          ap (take total) c.fill-part.ensures
-          ∙ take_refilled s.values.now s.null_state.kept total c.starting-value-start.result c.requires.order c.requires.values
-          ∙ ap (λ x. values_of s ++ replicate (total - s.null_state.kept) x) c.starting-value-start.ensures;
+          ap (take total) c.fill_part.ensures
+          ∙ take_refilled s.values.now s.null_state.kept total c.starting_value-start.result c.requires.order c.requires.values
+          ∙ ap (λ x. values_of s ++ replicate (total - s.null_state.kept) x) c.starting_value-start.ensures;
       marks = c.open.ensures.marks;
       rows = refl;
       groups = refl;
       values_len = omega arith;
-      marks-len = omega arith;
+      marks_len = omega arith;
     }

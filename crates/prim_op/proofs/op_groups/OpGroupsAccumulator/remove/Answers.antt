@@ -15,18 +15,18 @@ pub returns : goal.returns
 returns g c =
     let s = c.args.self.now in
     let o = g.O.Operation in
-    let e = c.args.emit-to in
+    let e = c.args.emit_to in
     let kept = s.null_state.kept in
     let n = count_of e kept in
     let plain = is_plain s.null_state.seen_values in
     let t = c.remove.new.self in
-    let vs = take t.kept c.move-down.new.slots in
+    let vs = take t.kept c.move_down.new.slots in
     let in-marks : kept ≤ length s.marks.now = omega arith in
     let in-values : kept ≤ length s.values.now = omega arith in
     let lm = forced_length plain kept s.marks.now in-marks in
     let lv = length-take-le kept s.values.now in-values in
     let moved : vs ≡ drop n (values_of s) =
-    ap (take t.kept) (c.move-down.ensures ∙ ap (λ k. moved_down s.values.now k kept) c.count-rows.ensures)
+    ap (take t.kept) (c.move_down.ensures ∙ ap (λ k. moved_down s.values.now k kept) c.count-rows.ensures)
     ∙ ap (λ k. take k (moved_down s.values.now n kept)) c.remove.ensures.kept
     ∙ take_moved s.values.now n kept c.requires.few in-values in
     let P : List Bool → Type 0 = λ ms. Unset o.start ms vs in

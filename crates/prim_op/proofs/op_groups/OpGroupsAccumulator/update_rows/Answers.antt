@@ -18,24 +18,24 @@ use Rattle.prim_op.proofs.Updates.{Told, credits_updated, unset_updated}
 use Rattle.prim_op.proofs.Calls.{told_memory, five_same, forced_same, visits_below, ticks_long, update_line, kept_credits, join_none, switch_is, all_covered, meaning_same}
 use Rattle.prim_op.proofs.op_groups.OpGroupsAccumulator.update_rows.Goals as goal
 
-pub returns-in-err-refuse : goal.returns-in-err-refuse
-returns-in-err-refuse g c =
+pub returns-in_err-refuse : goal.returns-in_err-refuse
+returns-in_err-refuse g c =
     let o = g.O.Operation in
     let s = c.args.self.now in
     let plain = is_plain s.null_state.seen_values in
     let kept = s.null_state.kept in
     let rows = g.C.Rows.cells c.args.values.now in
-    let f = ticks c.args.opt-filter.now in
+    let f = ticks c.args.opt_filter.now in
     let same : in_force plain kept c.refuse.new.marks ≡ marks_of s = forced_same plain kept c.refuse.new.marks s.marks.now c.refuse.ensures.marks in
     let in-marks : kept ≤ length s.marks.now = omega arith in
     let in-values : kept ≤ length s.values.now = omega arith in
     let many = kept_credits plain kept s.marks.now s.values.now in-marks in-values in
     let P : List Bool → Type 0 = λ ms. Unset o.start ms (values_of s) in
     let line =
-    c.in-err-refuse.ensures.answer
-    ∙ ap (λ n. refusal (batch_line s.most_rows s.most_groups kept n c.args.group-indices.now c.ticked.result c.args.total)) c.len.ensures
-    ∙ ap (λ q. refusal (batch_line s.most_rows s.most_groups kept (length rows) c.args.group-indices.now q c.args.total)) c.ticked.ensures
-    ∙ update_line o.start o.rule (meaning_of s) kept many refl rows f c.args.group-indices.now c.args.total in
+    c.in_err-refuse.ensures.answer
+    ∙ ap (λ n. refusal (batch_line s.most_rows s.most_groups kept n c.args.group_indices.now c.ticked.result c.args.total)) c.len.ensures
+    ∙ ap (λ q. refusal (batch_line s.most_rows s.most_groups kept (length rows) c.args.group_indices.now q c.args.total)) c.ticked.ensures
+    ∙ update_line o.start o.rule (meaning_of s) kept many refl rows f c.args.group_indices.now c.args.total in
     let p = err_from_is_err_and c.from-residual.result c.from-residual.ensures.1 in
     rw (p.1, p.2) record {
       stays = record { kept_limit = c.requires.kept_limit; limit_values = c.requires.limit_values; limit_marks = omega arith; unset = subst P (sym same) c.requires.unset };
@@ -47,11 +47,11 @@ pub walk-requires : goal.walk-requires
 walk-requires g c =
     let s = c.args.self.now in
     let t = c.open.new.self in
-    let a = (accepted s.most_rows s.most_groups s.null_state.kept c.len.result c.args.group-indices.now c.ticked.result c.args.total _ (sym c.in-ok-refuse.ensures.answer)).0 in
+    let a = (accepted s.most_rows s.most_groups s.null_state.kept c.len.result c.args.group_indices.now c.ticked.result c.args.total _ (sym c.in_ok-refuse.ensures.answer)).0 in
     record {
       even = sym a.even ∙ c.len.ensures;
-      named = All-weaker (λ k. k < c.args.total) (λ k. k < min (length t.values.now) (length t.marks.now)) (λ k h. omega (arith, a.room, c.open.ensures.values_len, c.open.ensures.marks-len)) c.args.group-indices.now a.below;
-      ticked = ticks_long (ticks c.args.opt-filter.now) c.len.result (length c.args.group-indices.now) (ap (λ q. unwrap_or q c.len.result) (sym c.ticked.ensures) ∙ a.filter) a.even;
+      named = All-weaker (λ k. k < c.args.total) (λ k. k < min (length t.values.now) (length t.marks.now)) (λ k h. omega (arith, a.room, c.open.ensures.values_len, c.open.ensures.marks_len)) c.args.group_indices.now a.below;
+      ticked = ticks_long (ticks c.args.opt_filter.now) c.len.result (length c.args.group_indices.now) (ap (λ q. unwrap_or q c.len.result) (sym c.ticked.ensures) ∙ a.filter) a.even;
     }
 
 pub returns : goal.returns
@@ -61,9 +61,9 @@ returns g c =
     let plain = is_plain s.null_state.seen_values in
     let kept = s.null_state.kept in
     let total = c.args.total in
-    let gs = c.args.group-indices.now in
+    let gs = c.args.group_indices.now in
     let rows = g.C.Rows.cells c.args.values.now in
-    let f = ticks c.args.opt-filter.now in
+    let f = ticks c.args.opt_filter.now in
     let t = c.open.new.self in
     let plain' = is_plain t.null_state.seen_values in
     let z = c.walk.new.visitor in
@@ -71,13 +71,13 @@ returns g c =
     let line : refusal (batch_line s.most_rows s.most_groups kept (length rows) gs (option_map length f) total) ≡ None =
     ap (λ n. refusal (batch_line s.most_rows s.most_groups kept n gs (option_map length f) total)) (sym c.len.ensures)
     ∙ ap (λ q. refusal (batch_line s.most_rows s.most_groups kept c.len.result gs q total)) (sym c.ticked.ensures)
-    ∙ sym c.in-ok-refuse.ensures.answer in
+    ∙ sym c.in_ok-refuse.ensures.answer in
     let a = (accepted s.most_rows s.most_groups kept (length rows) gs (option_map length f) total _ line).0 in
     let names = named s.most_rows s.most_groups kept (length rows) gs (option_map length f) total line in
     let told = c.walk.ensures.told ∙ told_memory o.start o.rule t.values.now t.marks.now plain' ps in
     let five = five_same _ _ _ _ _ _ _ _ _ _ _ _ c.walk.ensures.same in
-    let turns = c.given.result || ltb 0 c.null-count.result in
-    let turned : turns ≡ (is_some f || ltb 0 (nulls rows)) = ap (λ b. b || ltb 0 c.null-count.result) c.given.ensures ∙ ap (λ n. is_some f || ltb 0 n) c.null-count.ensures in
+    let turns = c.given.result || ltb 0 c.null_count.result in
+    let turned : turns ≡ (is_some f || ltb 0 (nulls rows)) = ap (λ b. b || ltb 0 c.null_count.result) c.given.ensures ∙ ap (λ n. is_some f || ltb 0 n) c.null_count.ensures in
     let force : in_force plain kept c.refuse.new.marks ≡ marks_of s = forced_same plain kept c.refuse.new.marks s.marks.now c.refuse.ensures.marks in
     let in-values : kept ≤ length s.values.now = omega arith in
     let in-marks : kept ≤ length s.marks.now = omega arith in
@@ -112,7 +112,7 @@ returns g c =
       stays = record {
         kept_limit = omega (arith, a.room, five.4, c.open.ensures.groups);
         limit_values = omega (arith, five.0, five.4, c.open.ensures.groups, c.open.ensures.values_len);
-        limit_marks = omega (arith, five.1, five.4, c.open.ensures.groups, c.open.ensures.marks-len);
+        limit_marks = omega (arith, five.1, five.4, c.open.ensures.groups, c.open.ensures.marks_len);
         unset = start-kept;
       };
       answer = sym line ∙ update_line o.start o.rule (meaning_of s) kept many refl rows f gs total;
