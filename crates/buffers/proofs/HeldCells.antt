@@ -1,11 +1,11 @@
 -- The rows of a view over buffers are those of the column that the buffers hold.
-use Rattle.std.proofs.Common.{◌≡◌, ℕ, ◌+◌, ◌*◌, ◌≤◌, Bool, true, false, cond, not, ◌&&◌, ◌||◌, eqb, ltb, List, [], ◌∷◌, map, length, take, is_ok, Some, None, Ok, Err, Option, Result, sym, refl, ap, ◌∙◌, arith}
+use Rattle.std.proofs.Common.{◌≡◌, ℕ, ◌+◌, ◌*◌, ◌≤◌, Bool, true, false, cond, not, ◌&&◌, ◌||◌, eqb, ltb, List, [], ◌∷◌, map, length, is_ok, Some, None, Ok, Err, Result, sym, refl, ap, ◌∙◌, arith}
 use Rattle.std.specs.List.{range_with_len}
 use Rattle.std.specs.Result.{result_err}
 use Rattle.std.proofs.lemmas.Bool.{cond_both, cond-false, le-ltb, ltb-false, eq-eqb, or_parts}
 use Rattle.columnar.specs.Packed.{bit_at, unpacked}
-use Rattle.columnar.specs.Cells.{Cell, Column, cell, cells, masked_cells}
-use Rattle.columnar.specs.Rows.{cells_from, column_cells, valid_at}
+use Rattle.columnar.specs.Cells.{Cell, cell, cells, masked_cells}
+use Rattle.columnar.specs.Rows.{cells_from, column_cells}
 use Rattle.buffers.specs.Memory.{readable}
 
 -- values without a mask, and under one

@@ -1,9 +1,9 @@
 -- The rows that a filter lets through, as bits.
-use Rattle.std.proofs.Common.{◌≡◌, ℕ, zero, suc, ◌+◌, ◌≤◌, Bool, ◌&&◌, List, [], ◌∷◌, map, length, take, Some, None, Option, sym, refl, ap, ◌∙◌, arith}
+use Rattle.std.proofs.Common.{◌≡◌, ℕ, zero, suc, ◌+◌, Bool, ◌&&◌, List, ◌∷◌, map, take, Some, None, Option, sym, refl, ap, ◌∙◌, arith}
 use Rattle.std.specs.List.{range_with_len}
 use Rattle.std.proofs.lemmas.List.FromFn.{length-map-range_with_len}
 use Rattle.std.proofs.lemmas.List.{take_all}
-use Rattle.columnar.specs.Cells.{Cell, ticked}
+use Rattle.columnar.specs.Cells.{ticked}
 use Rattle.columnar.specs.Packed.{bit_at, unpacked}
 use Rattle.columnar.specs.Rows.{cells_from, valid_at, boolean_cells}
 

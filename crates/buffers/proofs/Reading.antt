@@ -7,7 +7,7 @@ use Rattle.std.proofs.lemmas.List.FromFn.{fill_by_all}
 use Rattle.std.proofs.lemmas.Bool.{cases_lt, le-ltb, or_from}
 use Rattle.columnar.specs.Packed.{bit_at, unpacked, bytes_for, byte_up_to, packed}
 use Rattle.columnar.specs.Cells.{Column}
-use Rattle.buffers.specs.Memory.{Laid, front, mask_after, stored, stored_mask, stored_values, stored_packed, readable, held_values, held_packed}
+use Rattle.buffers.specs.Memory.{Laid, front, mask_after, stored, stored_mask, stored_values, stored_packed, readable, held_values, held_packed, readable_values, readable_packed}
 use Rattle.buffers.specs.ReadBack.{PackedReadsBack, MaskFits}
 use Rattle.buffers.proofs.Packing.{up_to_more, up_to_lt, length_packed, get_d_packed}
 
@@ -119,6 +119,18 @@ all_readable places n mask old enough fit =
 
 pub values_back : {X : Type 0} (c : Column X) (m : Laid X) → MaskFits c.mask (length c.figures) → held_values (stored stored_mask stored_values c m) ≡ c
 values_back c m fit =
+    let mask = held_mask_lem c.mask (length c.figures) m.bits fit in
+    let figures = take_at c.figures (drop (length c.figures) m.figures) (length c.figures) refl in
+    λ i. record { mask = mask i; figures = figures i }
+
+pub booleans_back : (c : Column Bool) (m : Laid ℕ) → MaskFits c.mask (length c.figures) → held_packed (stored stored_mask stored_packed c m) ≡ c
+booleans_back c m fit =
+    let mask = held_mask_lem c.mask (length c.figures) m.bits fit in
+    let figures = unpacked_front c.figures m.figures in
+    λ i. record { mask = mask i; figures = figures i }
+
+pub values_readable : {X : Type 0} (c : Column X) (m : Laid X) → MaskFits c.mask (length c.figures) → readable_values (stored stored_mask stored_values c m) ≡ c
+values_readable c m fit =
     let n = length c.figures in
     let after = front c.figures m.figures in
     let all = all_readable (length after) n c.mask m.bits (length_front c.figures m.figures) fit in
@@ -126,8 +138,8 @@ values_back c m fit =
     let figures = ap (λ k. take k after) all ∙ take_at c.figures (drop n m.figures) n refl in
     λ i. record { mask = mask i; figures = figures i }
 
-pub booleans_back : (c : Column Bool) (m : Laid ℕ) → MaskFits c.mask (length c.figures) → held_packed (stored stored_mask stored_packed c m) ≡ c
-booleans_back c m fit =
+pub booleans_readable : (c : Column Bool) (m : Laid ℕ) → MaskFits c.mask (length c.figures) → readable_packed (stored stored_mask stored_packed c m) ≡ c
+booleans_readable c m fit =
     let n = length c.figures in
     let after = front (packed c.figures) m.figures in
     let long : n ≤ 8 * length after = omega (arith, length_packed c.figures n refl, length_front (packed c.figures) m.figures) in

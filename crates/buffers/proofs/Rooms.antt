@@ -1,11 +1,11 @@
 -- Whether a column of one figure a row finds its places.
-use Rattle.std.proofs.Common.{◌≡◌, ℕ, ◌+◌, ◌≤◌, Bool, true, false, cond, ◌||◌, ltb, List, [], ◌∷◌, length, take, Some, None, sum_by, Option, sym, refl, ap, ◌∙◌, arith}
+use Rattle.std.proofs.Common.{◌≡◌, ℕ, ◌≤◌, Bool, true, false, cond, ◌||◌, ltb, List, [], ◌∷◌, length, Some, None, sum_by, Option, sym, refl, ap, ◌∙◌, arith}
 use Rattle.std.specs.Option.{option_map}
 use Rattle.std.proofs.lemmas.Bool.{le-ltb, or_parts, ltb-false}
 use Rattle.std.proofs.lemmas.List.{length-take-le}
 use Rattle.columnar.specs.Packed.{bytes_for}
 use Rattle.columnar.specs.Cells.{Column}
-use Rattle.buffers.specs.Memory.{Room, Layout, Shaped, short, mask_bytes, flat_column}
+use Rattle.buffers.specs.Memory.{Room, Shaped, short, mask_bytes, flat_column}
 
 no_items : {X : Type 0} (xs : List X) → sum_by (λ x. 0) xs ≡ 0
 no_items [] = refl

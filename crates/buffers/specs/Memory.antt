@@ -5,14 +5,15 @@
 --     Room             how many places there are: for figures, mask bytes and list items
 --     Layout X         how many places the figures of n rows take, and how many list items a row has
 --     front xs ys      xs over the first places of ys; the places past them are untouched
---     stored_mask       a mask written, if there is one; stored_values: figures written as values; stored_packed: as
+--     stored_mask      a mask written, if there is one; stored_values: figures written as values; stored_packed: as
 --                      packed booleans; stored: a whole column, first its mask and then its figures
+--     held_values      the column that lies in such buffers; held_packed
 --     readable         how many rows can be read back: none where one would lack its figure or, under a mask, its bit
---     held_values       the column that lies in such buffers; held_packed
+--     readable_values  the column that can be read back of such buffers; readable_packed
 --     short l r c      whether a column finds too few places
---     flat_column       the column of the first n of values, with the marks of these rows as their mask or without one
+--     flat_column      the column of the first n of values, with the marks of these rows as their mask or without one
 --     Shaped c n b     a column of n rows, with a mask of as many rows or without one
-use Rattle.std.specs.Prelude.{◌≡◌, ℕ, ◌+◌, ◌*◌, Bool, true, false, cond, ◌&&◌, ◌||◌, List, [], ◌∷◌, ◌++◌, length, take, drop, is_some, Some, None, sum_by, Option, nat_lt}
+use Rattle.std.specs.Prelude.{◌≡◌, ℕ, ◌*◌, Bool, cond, ◌&&◌, ◌||◌, List, ◌++◌, length, take, drop, is_some, Some, None, sum_by, Option, nat_lt}
 use Rattle.std.specs.Option.{option_map}
 use Rattle.columnar.specs.Packed.{bytes_for, packed, unpacked}
 use Rattle.columnar.specs.Cells.{Column}
@@ -62,22 +63,24 @@ stored_packed bs m = record { figures = front (packed bs) m.figures; bits = m.bi
 abbrev pub stored : {X M : Type 0} → (Option (List Bool) → M → M) → (List X → M → M) → Column X → M → M
 stored masks figures c m = figures c.figures (masks c.mask m)
 
+abbrev pub held_mask : {F : Type 0} → Laid F → Option (List Bool)
+held_mask m = cond m.masked (Some (unpacked m.bits 0 m.rows)) None
+
+abbrev pub held_values : {X : Type 0} → Laid X → Column X
+held_values m = record { mask = held_mask m; figures = take m.rows m.figures }
+
+abbrev pub held_packed : Laid ℕ → Column Bool
+held_packed m = record { mask = held_mask m; figures = unpacked m.figures 0 m.rows }
+
 -- of `rows` rows, where so many rows have a figure
 abbrev pub readable : ℕ → ℕ → Bool → ℕ → ℕ
 readable places bytes masked rows = cond (nat_lt places rows || (masked && nat_lt (8 * bytes) rows)) 0 rows
 
-abbrev pub held_mask : {F : Type 0} → Laid F → ℕ → Option (List Bool)
-held_mask m n = cond m.masked (Some (unpacked m.bits 0 n)) None
+abbrev pub readable_values : {X : Type 0} → Laid X → Column X
+readable_values m = held_values (record m { rows = readable (length m.figures) (length m.bits) m.masked m.rows })
 
-abbrev pub held_values : {X : Type 0} → Laid X → Column X
-held_values m =
-    let n = readable (length m.figures) (length m.bits) m.masked m.rows in
-    record { mask = held_mask m n; figures = take n m.figures }
-
-abbrev pub held_packed : Laid ℕ → Column Bool
-held_packed m =
-    let n = readable (8 * length m.figures) (length m.bits) m.masked m.rows in
-    record { mask = held_mask m n; figures = unpacked m.figures 0 n }
+abbrev pub readable_packed : Laid ℕ → Column Bool
+readable_packed m = held_packed (record m { rows = readable (8 * length m.figures) (length m.bits) m.masked m.rows })
 
 abbrev pub room_of : {F : Type 0} → Laid F → Room
 room_of m = record { figures = length m.figures; mask = length m.bits; items = 0 }

@@ -4,11 +4,12 @@
 --                              256, with zeros after the last bit
 --     MaskFits mask n          a mask, if there is one, is of n rows
 --     WrittenReadsBack X     the first of all bits; and of columns of values and of booleans: whatever lay in the
---                              buffers, the column that is laid down is the column held
+--                              buffers, the column that is laid down is the column held, and the one that can be
+--                              read
 use Rattle.std.specs.Prelude.{◌≡◌, ℕ, ◌<◌, ◌≤◌, Bool, false, List, length, Some, None, Option, slice_index}
 use Rattle.columnar.specs.Packed.{bit_at, unpacked, bytes_for, packed}
 use Rattle.columnar.specs.Cells.{Column}
-use Rattle.buffers.specs.Memory.{Laid, stored, stored_mask, stored_values, stored_packed, held_values, held_packed}
+use Rattle.buffers.specs.Memory.{Laid, stored, stored_mask, stored_values, stored_packed, held_values, held_packed, readable_values, readable_packed}
 
 pub record PackedReadsBack (bits : List Bool) : Type 0 where
   pub back : unpacked (packed bits) 0 (length bits) ≡ bits
@@ -24,3 +25,5 @@ pub record WrittenReadsBack (X : Type 0) : Type 0 where
   pub packs : (bits : List Bool) → PackedReadsBack bits
   pub values : (c : Column X) (m : Laid X) → MaskFits c.mask (length c.figures) → held_values (stored stored_mask stored_values c m) ≡ c
   pub booleans : (c : Column Bool) (m : Laid ℕ) → MaskFits c.mask (length c.figures) → held_packed (stored stored_mask stored_packed c m) ≡ c
+  pub values_readable : (c : Column X) (m : Laid X) → MaskFits c.mask (length c.figures) → readable_values (stored stored_mask stored_values c m) ≡ c
+  pub booleans_readable : (c : Column Bool) (m : Laid ℕ) → MaskFits c.mask (length c.figures) → readable_packed (stored stored_mask stored_packed c m) ≡ c

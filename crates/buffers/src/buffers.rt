@@ -3,7 +3,7 @@ ghost use Rattle.std.specs.Option.{option_map};
 ghost use Rattle.columnar.specs.Cells.{Column, cells, passes, kept_rows};
 ghost use Rattle.columnar.specs.Rows.{column_cells, boolean_cells};
 ghost use Rattle.columnar.specs.Packed.{bytes_for};
-ghost use Rattle.buffers.specs.Memory.{Laid, Room, Layout, front, values_layout, packed_layout, stored_mask, stored_values, stored_packed, flat_column, stored, mask_after, Shaped, short, held_values, held_packed, room_of};
+ghost use Rattle.buffers.specs.Memory.{Laid, Room, Layout, front, values_layout, packed_layout, stored_mask, stored_values, stored_packed, flat_column, stored, mask_after, Shaped, short, held_values, held_packed, readable_values, readable_packed, room_of};
 ghost use Rattle.columnar.specs.Views.{ticks};
 
 use crate::admitted::{AdmittedFigures, AdmittedMarks};
@@ -31,6 +31,9 @@ pub trait Buffers<X> {
     ghost figures: { List X → Memory → Memory };
 
     ghost held: { Memory → Column X };
+
+    // The column that a view of such buffers reads: the one held, or one of no rows where a row would lack its figure or bit.
+    ghost readable: { Memory → Column X };
 }
 
 /// Buffers with one figure a row, written from values and their marks.
@@ -112,6 +115,8 @@ impl<'b, T> Buffers<T> for PrimitiveBuffers<'b, T> {
     ghost figures = { stored_values };
 
     ghost held = { held_values };
+
+    ghost readable = { readable_values };
 }
 
 impl<'b, T> PrimitiveBuffers<'b, T> {
@@ -145,7 +150,7 @@ fn readable_rows(lacking: bool, bytes: usize, masked: bool, rows: usize) -> usiz
 impl<'b, T: Copy> PrimitiveBuffers<'b, T> {
     /// The column that lies in the buffers: what an answer has left in them, or no rows where they cannot be read.
     pub fn column(&self) -> PrimitiveColumn<'_, T>
-        ensures { column_cells (option_map behind result.mask) result.start result.values.now ≡ cells (held_values (record { figures = self.now.values.now; bits = self.now.bits.now; rows = self.now.len; masked = self.now.masked })) }
+        ensures { column_cells (option_map (λ x. x.now) result.mask) result.start result.values.now ≡ cells (readable_values (record { figures = self.now.values.now; bits = self.now.bits.now; rows = self.now.len; masked = self.now.masked })) }
     {
         let values: &[T] = self.values;
         let bits: &[u8] = self.bits;
@@ -230,12 +235,14 @@ impl<'b> Buffers<bool> for BooleanBuffers<'b> {
     ghost figures = { stored_packed };
 
     ghost held = { held_packed };
+
+    ghost readable = { readable_packed };
 }
 
 impl<'b> BooleanBuffers<'b> {
     /// The column that lies in the buffers: what an answer has left in them, or no rows where they cannot be read.
     pub fn column(&self) -> BooleanColumn<'_>
-        ensures { boolean_cells result.bytes.now result.start (option_map behind result.mask) result.from result.len ≡ cells (held_packed (record { figures = self.now.values.now; bits = self.now.bits.now; rows = self.now.len; masked = self.now.masked })) }
+        ensures { boolean_cells result.bytes.now result.start (option_map (λ x. x.now) result.mask) result.from result.len ≡ cells (readable_packed (record { figures = self.now.values.now; bits = self.now.bits.now; rows = self.now.len; masked = self.now.masked })) }
     {
         let bytes: &[u8] = self.values;
         let bits: &[u8] = self.bits;

@@ -1,13 +1,12 @@
 -- The conditions of a batch that ask for no pairs, by numbers: for accumulators that keep no pairs.
-use Rattle.std.specs.Prelude.{ℕ, ◌-◌, Bool, false, not, List, length, Option, ◌==◌, nat_lt}
+use Rattle.std.specs.Prelude.{ℕ, ◌-◌, false, not, List, length, Option, ◌==◌, nat_lt}
 use Rattle.std.specs.Option.{unwrap_or}
 use Rattle.groups.specs.Lists.{all_below, names_from}
 use Rattle.groups.specs.Tally.{Conditions}
 
--- of n rows with these group indices; `ticked` is the length of a filter that is given, and `unnamed` whether a group is
--- to be opened that no row names
-abbrev pub batch_line_with : Bool → ℕ → ℕ → ℕ → ℕ → List ℕ → Option ℕ → ℕ → Conditions
-batch_line_with unnamed most_rows most_groups kept n groups ticked total =
+-- of n rows with these group indices; `ticked` is the length of a filter that is given
+abbrev pub batch_line : ℕ → ℕ → ℕ → ℕ → List ℕ → Option ℕ → ℕ → Conditions
+batch_line most_rows most_groups kept n groups ticked total =
     record {
       too_many_rows = nat_lt most_rows n;
       indices_differ = not (n == length groups);
@@ -15,12 +14,8 @@ batch_line_with unnamed most_rows most_groups kept n groups ticked total =
       total_below = nat_lt total kept;
       total_above = nat_lt most_groups total;
       index_above = not (all_below total groups);
-      not_named = unnamed;
+      not_named = not (names_from kept (total - kept) groups);
       too_many_pairs = false;
       too_many_groups = false;
       buffer_short = false;
     }
-
-abbrev pub batch_line : ℕ → ℕ → ℕ → ℕ → List ℕ → Option ℕ → ℕ → Conditions
-batch_line most_rows most_groups kept n groups ticked total =
-    batch_line_with (not (names_from kept (total - kept) groups)) most_rows most_groups kept n groups ticked total

@@ -5,8 +5,8 @@
 --     fresh l          the meaning of an accumulator that is made
 --     Conditions       which of the refusals 5 to 14 hold of a call; one that a call does not look for is false
 --     holds c r        the condition of a refusal
---     in_line          the refusals of calls, in the order in line; foremost: the first of a list that holds
---     refusal c        the first in line that holds
+--     in_line          the refusals of calls, in the order in line
+--     refusal c        the first of them in line
 --     unless r a b     b where nothing is refused, else a
 --     X-refusal, and what an accepted call gives: updated, merged, answer, peeked, removed, converted
 use Rattle.std.specs.Prelude.{◌≡◌, ℕ, ◌+◌, ◌-◌, Bool, true, false, cond, not, ◌&&◌, ◌||◌, List, [], ◌∷◌, ◌++◌, map, length, replicate, is_some, Some, None, sum_by, Option, ◌==◌, nat_lt}
@@ -76,12 +76,24 @@ in_line =
     ∷ ShortBuffer
     ∷ []
 
-abbrev pub foremost : (Refusal → Bool) → List Refusal → Option Refusal
-foremost h [] = None
-foremost h (r ∷ rs) = cond (h r) (Some r) (foremost h rs)
+abbrev pub foremost : List (Bool × Refusal) → Option Refusal
+foremost [] = None
+foremost (c ∷ cs) = cond c.0 (Some c.1) (foremost cs)
 
 abbrev pub refusal : Conditions → Option Refusal
-refusal c = foremost (holds c) in_line
+refusal c =
+    foremost
+    ((c.too_many_rows, TooManyRows)
+    ∷ (c.indices_differ, IndexCount)
+    ∷ (c.filter_differs, FilterLength)
+    ∷ (c.total_below, TotalBelowKept)
+    ∷ (c.total_above, TotalAboveLimit)
+    ∷ (c.index_above, IndexAboveTotal)
+    ∷ (c.not_named, GroupNotNamed)
+    ∷ (c.too_many_pairs, TooManyPairs)
+    ∷ (c.too_many_groups, TooManyGroups)
+    ∷ (c.buffer_short, ShortBuffer)
+    ∷ [])
 
 -- 13 and 14 alone
 abbrev pub emit_conditions : Bool → Bool → Conditions

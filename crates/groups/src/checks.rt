@@ -1,12 +1,13 @@
-ghost use Rattle.std.specs.Prelude.{◌≡◌, ℕ, ◌+◌, ◌-◌, ◌<◌, ◌≤◌, Bool, true, false, not, List, [], ◌∷◌, length, take, Decides, slice_index_or};
+ghost use Rattle.std.specs.Prelude.{◌≡◌, ℕ, ◌+◌, ◌-◌, ◌<◌, ◌≤◌, Bool, true, false, not, List, [], ◌∷◌, length, take, Decides, slice_index_or, ◌==◌, nat_lt};
 ghost use Rattle.std.specs.Option.{unwrap_or};
 ghost use Rattle.std.specs.Result.{result_err};
 ghost use Rattle.std.specs.List.{AllByRecursion as All};
 ghost use Rattle.groups.specs.Lists.{all_below, names_from};
-ghost use Rattle.groups.specs.Lines.{batch_line, batch_line_with};
+ghost use Rattle.groups.specs.Lines.{batch_line};
 ghost use Rattle.groups.specs.Named.{named_marks};
 ghost use Rattle.groups.specs.InLine.{FirstByNumber};
-ghost use Rattle.groups.specs.Tally.{refusal};
+ghost use Rattle.groups.specs.Tally.{foremost, refusal};
+ghost use Rattle.columnar.specs.declared.refusal.Refusal.TheVariants.{TooManyRows, IndexCount, FilterLength, TotalBelowKept, TotalAboveLimit, IndexAboveTotal};
 
 use crate::moves::fill_part;
 use columnar::refusal::Refusal;
@@ -33,7 +34,7 @@ fn refuse_batch(
     ticked: Option<usize>,
     total: usize,
 ) -> Result<(), Refusal>
-    ensures { result_err result ≡ refusal (batch_line_with false most_rows most_groups kept rows group_indices.now ticked total) }
+    ensures { result_err result ≡ foremost ((nat_lt most_rows rows, TooManyRows) ∷ (not (rows == length group_indices.now), IndexCount) ∷ (not (unwrap_or ticked rows == rows), FilterLength) ∷ (nat_lt total kept, TotalBelowKept) ∷ (nat_lt most_groups total, TotalAboveLimit) ∷ (not (all_below total group_indices.now), IndexAboveTotal) ∷ []) }
 {
     if rows > most_rows {
         return Err(Refusal::TooManyRows);

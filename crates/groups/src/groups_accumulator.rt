@@ -74,8 +74,8 @@ pub trait GroupsAccumulator<'a> {
     ) -> Result<(), Refusal>
         requires sound { sound self.old }
         ensures stays { sound self.new }
-        ensures answer { result_err result ≡ merge_refusal kind (meaning self.old) (cells (Self.StateBuffers.Buffers.held (Self.StateBuffers.Buffers.memory written.now))) group_indices.now total_num_groups }
-        ensures after { meaning self.new ≡ unless (result_err result) (meaning self.old) (merged kind (meaning self.old) (cells (Self.StateBuffers.Buffers.held (Self.StateBuffers.Buffers.memory written.now))) group_indices.now total_num_groups) };
+        ensures answer { result_err result ≡ merge_refusal kind (meaning self.old) (cells (Self.StateBuffers.Buffers.readable (Self.StateBuffers.Buffers.memory written.now))) group_indices.now total_num_groups }
+        ensures after { meaning self.new ≡ unless (result_err result) (meaning self.old) (merged kind (meaning self.old) (cells (Self.StateBuffers.Buffers.readable (Self.StateBuffers.Buffers.memory written.now))) group_indices.now total_num_groups) };
 
     /// Writes each row's credit as a state row, and changes nothing; a row that is not let through gives the empty credit.
     fn convert_to_state(

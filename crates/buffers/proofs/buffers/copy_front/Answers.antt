@@ -1,4 +1,4 @@
-use Rattle.std.proofs.Common.{◌≡◌, refl, arith}
+use Rattle.std.proofs.Common.{refl, arith}
 use Rattle.buffers.proofs.Fronts.{over_more, over_first}
 use Rattle.buffers.proofs.buffers.copy_front.Goals as goal
 

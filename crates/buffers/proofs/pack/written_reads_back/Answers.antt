@@ -1,5 +1,5 @@
-use Rattle.buffers.proofs.Reading.{packed_back, values_back, booleans_back}
+use Rattle.buffers.proofs.Reading.{packed_back, values_back, booleans_back, values_readable, booleans_readable}
 use Rattle.buffers.proofs.pack.written_reads_back.Goals as goal
 
 pub returns : goal.returns
-returns g c = record { packs = packed_back; values = values_back; booleans = booleans_back }
+returns g c = record { packs = packed_back; values = values_back; booleans = booleans_back; values_readable = values_readable; booleans_readable = booleans_readable }

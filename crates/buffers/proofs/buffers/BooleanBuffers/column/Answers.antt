@@ -1,4 +1,4 @@
-use Rattle.std.proofs.Common.{◌≡◌, ◌*◌, ◌≤◌, length, Some, None, sym, refl, ap, ◌∙◌, ap₂}
+use Rattle.std.proofs.Common.{◌*◌, length, Some, None, sym, ap, ◌∙◌, ap₂}
 use Rattle.columnar.specs.Packed.{unpacked}
 use Rattle.columnar.specs.Rows.{boolean_cells}
 use Rattle.columnar.proofs.CellRows.{length_unpacked}

@@ -1,4 +1,4 @@
-use Rattle.std.proofs.Common.{◌≡◌, is_some, ap, ◌∙◌, arith}
+use Rattle.std.proofs.Common.{is_some, ap, ◌∙◌, arith}
 use Rattle.columnar.specs.Cells.{over}
 use Rattle.buffers.specs.Memory.{short, stored}
 use Rattle.columnar.specs.Views.{ticks}
