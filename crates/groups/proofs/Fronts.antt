@@ -1,6 +1,6 @@
 -- A loop that writes one list over the front of another.
-use Rattle.std.proofs.Common.{◌≡◌, ℕ, ◌+◌, ◌-◌, ◌<◌, ◌≤◌, List, [], ◌∷◌, ◌++◌, length, get_or, take, drop, set, sym, refl, ap, ◌∙◌, arith}
-use Rattle.std.proofs.lemmas.List.{append_assoc, length-take-le, length-drop, set-append_right, drop_more, take_more, get_or-append_right, get_or-drop, get_or_default}
+use Rattle.std.proofs.Common.{◌≡◌, ℕ, ◌+◌, ◌-◌, ◌<◌, List, [], ◌∷◌, ◌++◌, length, get_or, take, drop, set, sym, ap, ◌∙◌, arith}
+use Rattle.std.proofs.lemmas.List.{append_assoc, length-take-le, length-drop, set-append_right, drop_more, take_more, get_or-append_right, get_or-drop}
 use Rattle.groups.specs.Moves.{over_front}
 
 set_first : {X : Type 0} (ys zs : List X) (y x : X) (n : ℕ) → n ≡ 0 → ys ≡ y ∷ zs → set ys n x ≡ x ∷ zs

@@ -1,7 +1,7 @@
 -- Marks in force after groups are opened, the switch is turned or groups are removed.
-use Rattle.std.proofs.Common.{◌≡◌, ℕ, zero, suc, ◌+◌, ◌-◌, ◌<◌, ◌≤◌, Bool, true, false, cond, not, ◌&&◌, List, [], ◌∷◌, ◌++◌, length, take, drop, replicate, sym, refl, ap, ◌∙◌, arith}
+use Rattle.std.proofs.Common.{◌≡◌, ℕ, ◌+◌, ◌-◌, ◌≤◌, Bool, true, false, not, ◌&&◌, List, ◌++◌, length, take, drop, replicate, sym, refl, ap, ◌∙◌, arith}
 use Rattle.std.proofs.lemmas.List.{append_assoc, length-append, length-take-le, length-drop, length-replicate, take_at, drop-take, drop-replicate}
-use Rattle.groups.specs.Moves.{refilled, over_front, moved_down}
+use Rattle.groups.specs.Moves.{refilled, moved_down}
 use Rattle.groups.specs.Seen.{in_force}
 
 pub take_refilled : {X : Type 0} (xs : List X) (from to : ℕ) (x : X) → from ≤ to → to ≤ length xs → take to (refilled xs from to x) ≡ take from xs ++ replicate (to - from) x

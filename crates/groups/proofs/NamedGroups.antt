@@ -1,7 +1,7 @@
 -- The table of named groups.
-use Rattle.std.proofs.Common.{◌≡◌, ℕ, zero, suc, ◌+◌, ◌-◌, ◌<◌, ◌≤◌, Bool, true, false, cond, ◌&&◌, ◌||◌, eqb, leb, ◌⊎◌, List, [], ◌∷◌, ◌++◌, length, get_or, take, drop, set, replicate, Decides, sym, refl, ap, ◌∙◌, subst, inl, inr, ⊎_elim, arith}
-use Rattle.std.specs.List.{ContainsAt as Has, AllByRecursion as All}
-use Rattle.std.proofs.lemmas.List.{length-set, length-append, length-take-le, length-replicate, length-drop, get_or-set_same, get_or_append_left, get_or-append_right, get_or-replicate, take-set-le, drop-set-lt, take_at, drop_at, take-append-le, append_assoc}
+use Rattle.std.proofs.Common.{◌≡◌, ℕ, zero, suc, ◌+◌, ◌-◌, ◌<◌, ◌≤◌, Bool, true, false, cond, ◌||◌, eqb, leb, ◌⊎◌, List, [], ◌∷◌, ◌++◌, length, get_or, take, drop, set, replicate, Decides, sym, refl, ap, ◌∙◌, subst, inl, inr, ⊎_elim, arith}
+use Rattle.std.specs.List.{ContainsAt as Has}
+use Rattle.std.proofs.lemmas.List.{length-set, length-append, length-take-le, length-replicate, length-drop, get_or-set_same, get_or_append_left, get_or-append_right, get_or-replicate, take-set-le, take_at}
 use Rattle.std.proofs.lemmas.Bool.{both_ways, eq-eqb, eqb-true, and_from, and_parts, cases_lt, le-leb, cases_Bool, cond-true, cond-false, leb-true}
 use Rattle.groups.specs.Lists.{has, names_from}
 use Rattle.groups.specs.Moves.{refilled}

@@ -8,7 +8,7 @@
 --     Clear c      neither shown nor written null
 --     Laws         the laws but for commuting
 --     Commutes     the join of two credits is alike in either order
-use Rattle.std.specs.Prelude.{◌≡◌, ℕ, Bool, true, false, cond, List, [], ◌∷◌, is_some, Some, None, Option}
+use Rattle.std.specs.Prelude.{◌≡◌, ℕ, true, cond, List, [], ◌∷◌, is_some, Some, Option}
 use Rattle.columnar.specs.Cells.{Cell, over}
 
 pub data Switch : Type 0 where

@@ -2,7 +2,7 @@
 --
 --     cap            the most rows of a batch, and the most groups, of any accumulator
 --     pair_cap        the most pairs of any accumulator
-use Rattle.std.specs.Prelude.{ℕ, min}
+use Rattle.std.specs.Prelude.{ℕ}
 
 abbrev pub cap : ℕ
 cap = 65536

@@ -9,7 +9,7 @@
 --     refusal c        the first of them in line
 --     unless r a b     b where nothing is refused, else a
 --     X-refusal, and what an accepted call gives: updated, merged, answer, peeked, removed, converted
-use Rattle.std.specs.Prelude.{◌≡◌, ℕ, ◌+◌, ◌-◌, Bool, true, false, cond, not, ◌&&◌, ◌||◌, List, [], ◌∷◌, ◌++◌, map, length, replicate, is_some, Some, None, sum_by, Option, ◌==◌, nat_lt}
+use Rattle.std.specs.Prelude.{ℕ, ◌-◌, Bool, true, false, cond, not, ◌&&◌, ◌||◌, List, [], ◌∷◌, ◌++◌, map, length, replicate, is_some, Some, None, sum_by, Option, ◌==◌, nat_lt}
 use Rattle.columnar.specs.declared.refusal.Refusal.{Refusal}
 use Rattle.columnar.specs.declared.refusal.Refusal.TheVariants.{BitsOutOfBytes, MaskLength, Offsets, SpanOrder, TooManyRows, IndexCount, FilterLength, TotalBelowKept, TotalAboveLimit, IndexAboveTotal, GroupNotNamed, TooManyPairs, TooManyGroups, ShortBuffer}
 use Rattle.columnar.specs.Cells.{Cell, Column, Ticks, seen, handed, passes, nulls}

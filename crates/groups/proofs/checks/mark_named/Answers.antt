@@ -5,7 +5,7 @@ use Rattle.groups.proofs.checks.mark_named.Goals as goal
 use Rattle.groups.proofs.checks.mark_named.Goals.{then-group-kept, else-group-kept}
 
 pub bounds-marks-group : goal.bounds-marks-group
-bounds-marks-group c = omega (arith, index_below (length c.args.marks.now) c.args.group_indices.now c.loop-group.group_index c.requires c.loop-group-test.true)
+bounds-marks-group c = omega (arith, index_below (length c.args.marks.now) c.args.group_indices.now c.loop-group.group-index c.requires c.loop-group-test.true)
 
 pub loop-group-preserved : goal.loop-group-preserved
 loop-group-preserved c =

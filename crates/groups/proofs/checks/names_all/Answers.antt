@@ -1,4 +1,4 @@
-use Rattle.std.proofs.Common.{◌<◌, false, length, ap, ◌∙◌, arith}
+use Rattle.std.proofs.Common.{◌<◌, length, ap, arith}
 use Rattle.std.proofs.ByRecursion.{All-weaker}
 use Rattle.groups.proofs.NamedGroups.{refilled_length, names_answer, table_front}
 use Rattle.groups.proofs.checks.names_all.Goals as goal

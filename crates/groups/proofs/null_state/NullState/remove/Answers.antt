@@ -1,4 +1,4 @@
-use Rattle.std.proofs.Common.{◌≡◌, ◌-◌, ◌≤◌, true, cond, sym, refl, ap, ◌∙◌, arith}
+use Rattle.std.proofs.Common.{◌-◌, ◌≤◌, true, cond, sym, ap, ◌∙◌, arith}
 use Rattle.groups.specs.Emits.{count_of, others, resets}
 use Rattle.groups.specs.Seen.{is_plain, in_force}
 use Rattle.groups.proofs.Marking.{forced_moved}

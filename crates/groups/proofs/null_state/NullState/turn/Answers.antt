@@ -1,4 +1,4 @@
-use Rattle.std.proofs.Common.{◌≡◌, take, sym, refl, ap, ◌∙◌}
+use Rattle.std.proofs.Common.{take, sym, refl, ap, ◌∙◌}
 use Rattle.groups.specs.Seen.{is_plain}
 use Rattle.groups.proofs.Marking.{turned_switch, forced_turned}
 use Rattle.groups.proofs.null_state.NullState.turn.Goals as goal
