@@ -1,5 +1,5 @@
 -- The laws of the primitive kind, for every rule that combines.
-use Rattle.std.proofs.Common.{◌≡◌, ℕ, Bool, true, false, ◌||◌, is_some, Some, None, Option, sym, refl, ap, ◌∙◌, ap₂, arith}
+use Rattle.std.proofs.Common.{◌≡◌, ℕ, true, false, ◌||◌, is_some, Some, None, Option, sym, refl, ap, ◌∙◌, ap₂, arith}
 use Rattle.columnar.specs.Cells.{over}
 use Rattle.groups.specs.Kind.{Laws, Commutes, read, by_nulls, always_plain}
 use Rattle.operations.specs.Primitive.{Combines, join_by, primitive, marked, value, MarkAndValue}

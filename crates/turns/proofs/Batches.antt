@@ -1,10 +1,9 @@
 -- What an accepted call has, what a batch without filter and nulls is, and what columns say.
-use Rattle.std.proofs.Common.{◌≡◌, ℕ, zero, suc, ◌+◌, ◌-◌, ◌<◌, ◌≤◌, Bool, true, false, cond, not, eqb, ltb, List, [], ◌∷◌, map, length, is_some, Some, None, sum_by, Option, sym, refl, ap, ◌∙◌, arith}
+use Rattle.std.proofs.Common.{◌≡◌, ℕ, suc, ◌+◌, ◌-◌, ◌≤◌, Bool, true, false, cond, not, eqb, ltb, List, [], ◌∷◌, map, length, is_some, Some, None, sum_by, Option, refl, ap, arith}
 use Rattle.std.specs.List.{AllByRecursion as All}
 use Rattle.std.proofs.lemmas.Bool.{not-false, cond-true, false≢true, eqb-true, ltb-false, le-ltb}
 use Rattle.std.proofs.lemmas.List.Sums.{sum_by-cons}
-use Rattle.columnar.specs.declared.refusal.Refusal.{Refusal}
-use Rattle.columnar.specs.Cells.{Cell, Column, Ticks, cell, seen, over, handed, cells, masked_cells, all_pass, nulls}
+use Rattle.columnar.specs.Cells.{Cell, Ticks, cell, over, handed, cells, masked_cells, nulls}
 use Rattle.groups.specs.declared.emit.EmitTo.{EmitTo}
 use Rattle.groups.specs.declared.emit.EmitTo.TheVariants.{All as Whole, First}
 use Rattle.groups.specs.Emits.{count_of, too_many}

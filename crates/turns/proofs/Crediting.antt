@@ -3,14 +3,14 @@ use Rattle.std.proofs.Common.{◌≡◌, ℕ, zero, suc, ◌+◌, ◌-◌, ◌<�
 use lib.ListN.{length-replicate, length-map, get_or-map}
 use Rattle.std.proofs.lemmas.List.{get_or-drop, get_or-take, length-take-le, append-nil, append_assoc}
 use Rattle.std.proofs.lemmas.Bool.{cases_eq, eq-eqb, ne_eqb, cond-true, cond-false}
-use Rattle.columnar.specs.Cells.{Cell, Ticks, cell, seen, passes, all_pass, ticked}
+use Rattle.columnar.specs.Cells.{Cell, Ticks, seen}
 use Rattle.groups.specs.declared.emit.EmitTo.{EmitTo}
 use Rattle.groups.specs.declared.emit.EmitTo.TheVariants.{All, First}
 use Rattle.groups.specs.Emits.{taken, others, count_of}
 use Rattle.groups.specs.Lists.{change, deal, zip}
-use Rattle.groups.specs.Tally.{admitted, row_entries}
-use Rattle.turns.specs.Lists.{listed, gathered}
-use Rattle.turns.specs.Book.{Bag, Open, Account, Entry, counts, index, row_bag, rows_at, bags_at, kept, open_at, grown, front, without, bags_of}
+use Rattle.groups.specs.Tally.{row_entries}
+use Rattle.turns.specs.Lists.{listed}
+use Rattle.turns.specs.Book.{Bag, Open, Account, Entry, rows_at, bags_at, kept, open_at, grown, front, without, bags_of}
 use Rattle.turns.proofs.Deals.{length_deal, change_same, change_other}
 
 -- ── lists made by places ─────────────────────────────────────────────────

@@ -1,5 +1,5 @@
 -- The join of a list of rows: appending is joining, and order does not matter where the join commutes.
-use Rattle.std.proofs.Common.{◌≡◌, List, [], ◌∷◌, ◌++◌, Option, refl, subst}
+use Rattle.std.proofs.Common.{◌≡◌, List, [], ◌∷◌, ◌++◌, Option, subst}
 use mathlib.Core.List.{Permᴰ}
 use Rattle.groups.specs.Kind.{Kind, Laws, Commutes, joined}
 

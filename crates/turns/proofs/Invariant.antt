@@ -1,27 +1,27 @@
 -- What every turn keeps: each accumulator's credits are alike the joins of its bags, and each row handed out is what its entry says.
-use Rattle.std.proofs.Common.{◌≡◌, ℕ, zero, suc, ◌+◌, ◌-◌, ◌<◌, ◌≤◌, Bool, true, false, cond, not, ◌&&◌, ◌||◌, ltb, List, [], ◌∷◌, ◌++◌, map, length, get_or, set, replicate, is_some, Some, None, Option, sym, refl, ap, ◌∙◌, subst, arith}
+use Rattle.std.proofs.Common.{◌≡◌, ℕ, ◌-◌, ◌<◌, ◌≤◌, Bool, true, false, cond, ◌&&◌, ◌||◌, ltb, List, [], ◌∷◌, ◌++◌, map, length, get_or, set, replicate, is_some, Some, None, Option, sym, refl, ap, ◌∙◌, subst, arith}
 use lib.ListN.{get_or-map}
 use Rattle.std.specs.List.{AllByRecursion as All}
-use Rattle.std.proofs.lemmas.Bool.{or_parts, cond-true, true≢false, false≢true}
+use Rattle.std.proofs.lemmas.Bool.{or_parts, cond-true, true≢false}
 use Rattle.columnar.specs.declared.refusal.Refusal.{Refusal}
-use Rattle.columnar.specs.Cells.{Cell, Column, Ticks, seen, over, cells, passes, nulls}
+use Rattle.columnar.specs.Cells.{Cell, Ticks, seen, over, cells, passes, nulls}
 use Rattle.buffers.specs.Memory.{Room, short}
 use Rattle.groups.specs.declared.emit.EmitTo.{EmitTo}
 use Rattle.groups.specs.declared.emit.EmitTo.TheVariants.{All as Whole, First}
-use Rattle.groups.specs.Emits.{taken, others, count_of, too_many}
-use Rattle.groups.specs.Lists.{deal, zip, all_below, names_from}
+use Rattle.groups.specs.Emits.{taken, others, count_of}
+use Rattle.groups.specs.Lists.{zip, all_below}
 use Rattle.groups.specs.Kind.{Kind, Switch, by_nulls, always_marked, always_plain, Laws, Clear, read, joined}
-use Rattle.groups.specs.Tally.{Means, Limits, turned, left_by, converts_masked, opened, with_rows, with_states, row_entries, row_credits, update_refusal, updated, merge_refusal, merged, evaluate_refusal, answer, removed, state_column, peeked, peek_refusal, forget_refusal, converted, convert_refusal, fresh}
+use Rattle.groups.specs.Tally.{Means, turned, left_by, converts_masked, opened, with_rows, with_states, row_entries, row_credits, update_refusal, updated, merge_refusal, merged, evaluate_refusal, answer, removed, state_column, peeked, peek_refusal, forget_refusal, converted, convert_refusal, fresh}
 use Rattle.turns.specs.Lists.{Each, listed}
-use Rattle.turns.specs.Turns.{Turn, Outcome, Place, Sent, Layouts, Accumulators, Step, at, nobody, ruled, taken_over, handed_over, sent_cells, named, called, step}
+use Rattle.turns.specs.Turns.{Turn, Outcome, Sent, Layouts, Step, at, nobody, ruled, taken_over, sent_cells, named, called, step}
 use Rattle.turns.specs.Turns.Turn.{update, merge, convert, evaluate, state, peek, forget, hand_over}
 use Rattle.turns.specs.Turns.Outcome.{done, showed, wrote, refused, taker_refused, no_such}
-use Rattle.turns.specs.Book.{Bag, Open, Account, Entry, Book, Verdict, accepted, refused_call, refused_by_taker, verdict, row_bag, rows_at, bags_at, kept, grown, front, without, bags_of, account, placed, noted, entered, peeked_only, booked}
-use Rattle.turns.specs.Theorem.{rows_written, written_in, Stands, MergeStands, Shows, Carries, Showing, Writing}
+use Rattle.turns.specs.Book.{Bag, Account, Entry, Book, verdict, row_bag, rows_at, bags_at, kept, grown, front, without, bags_of, account, placed, noted, booked}
+use Rattle.turns.specs.Theorem.{rows_written, Stands, MergeStands, Shows, Carries, Showing, Writing}
 use Rattle.turns.proofs.Division.{joined_join, joined_one, joined_push}
 use Rattle.turns.proofs.Eachs.{each_length, each_append, each_replicate, each_get_d, each_at, each_set, each_taken, each_others, Paired, each_deal, each_same, each_map, each_unmap, each_zip, all_taken, all_others, all_maps, all_of}
-use Rattle.turns.proofs.Deals.{heads, dealt_all}
-use Rattle.turns.proofs.Crediting.{mine, add_to, alone, whole, rows_mine, bags_mine, bags_in, kept_bags, grown_bags, front_bags, without_bags, map_listed}
+use Rattle.turns.proofs.Deals.{dealt_all}
+use Rattle.turns.proofs.Crediting.{add_to, alone, whole, rows_mine, bags_mine, bags_in, kept_bags, grown_bags, front_bags, without_bags, map_listed}
 use Rattle.turns.proofs.Batches.{Passed, passed, within, entries_heads, Given, entries_given, zip_heads, zip_valid, cells_handed}
 
 module _ {V S O : Type 0} (K : Kind V S O) (L : Laws K) where

@@ -4,5 +4,5 @@ pub mod Deals
 pub mod Crediting
 pub mod Batches
 pub mod Invariant
-pub mod Hidden
+pub mod Unseen
 pub mod Runs

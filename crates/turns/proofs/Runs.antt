@@ -1,5 +1,5 @@
 -- The theorem over all turns together.
-use Rattle.std.proofs.Common.{◌≡◌, ℕ, ◌<◌, List, [], ◌∷◌, ◌++◌, map, length, get_or, Some, None, Option, sym, refl, ap, ◌∙◌, subst, arith}
+use Rattle.std.proofs.Common.{◌≡◌, ℕ, ◌<◌, List, [], ◌∷◌, ◌++◌, map, length, get_or, None, sym, refl, ap, ◌∙◌, subst, arith}
 use Rattle.std.proofs.lemmas.List.{append-nil, append_assoc}
 use Rattle.columnar.specs.Cells.{Cell, cells, over}
 use Rattle.groups.specs.Kind.{Kind, Laws, Commutes, joined}
@@ -8,11 +8,11 @@ use Rattle.turns.specs.Lists.{Each}
 use Rattle.turns.specs.Turns.{Turn, Outcome, Layouts, step, outcomes, answers}
 use Rattle.turns.specs.Turns.Outcome.{done, showed, wrote, refused, taker_refused, no_such}
 use Rattle.turns.specs.Book.{Bag, Entry, Group, Book, verdict, booked, booked_all, new_book}
-use Rattle.turns.specs.Theorem.{rows_shown, HonestAfter, Honest, InOrder, InAnyOrder, ledger, Closed, Shows, Carries, UpTo, Showing, Writing, AlikeButHidden, Promised, RunsHold}
+use Rattle.turns.specs.Theorem.{rows_shown, HonestAfter, Honest, InOrder, InAnyOrder, ledger, Closed, Shows, Carries, UpTo, Showing, Writing, RunsHold}
 use Rattle.turns.proofs.Division.{joined_perm}
 use Rattle.turns.proofs.Eachs.{each_imp, each_maps, each_get_d, each_at}
 use Rattle.turns.proofs.Invariant.{Inv, Fair, Told, ShowsEntry, CarriesEntry, step_keeps}
-use Rattle.turns.proofs.Hidden.{outcomes_same}
+use Rattle.turns.proofs.Unseen.{outcomes_same}
 
 module _ {V S O : Type 0} (K : Kind V S O) (L : Laws K) where
   run_keeps : (l : Layouts S O) (turns : List (Turn V S)) (ts : List (Means K)) (past : List (Outcome S O)) (b : Book V) → Inv K L ts past b → HonestAfter K past turns (outcomes K l ts turns)

@@ -19,7 +19,7 @@ use Rattle.columnar.specs.Cells.{Cell, Ticks, cell, seen}
 use Rattle.groups.specs.declared.emit.EmitTo.{EmitTo}
 use Rattle.groups.specs.Emits.{count_of}
 use Rattle.turns.specs.Lists.{listed, gathered}
-use Rattle.turns.specs.Turns.{Turn, Outcome, Place, Sent}
+use Rattle.turns.specs.Turns.{Turn, Outcome, Place}
 use Rattle.turns.specs.Turns.Turn.{update, merge, convert, evaluate, state, peek, forget, hand_over}
 use Rattle.turns.specs.Turns.Outcome.{done, showed, wrote, refused, taker_refused, no_such}
 

@@ -15,7 +15,7 @@
 --                          value bits of null ticks
 --     Promised             the promise on turns made of fresh accumulators, and their outcomes
 --     RunsHold            it holds of the outcomes of all turns
-use Rattle.std.specs.Prelude.{◌≡◌, ℕ, ◌<◌, Bool, true, List, [], ◌∷◌, ◌++◌, map, length, get_or, Some, None, Option, slice_index_or}
+use Rattle.std.specs.Prelude.{◌≡◌, ℕ, ◌<◌, true, List, [], ◌∷◌, ◌++◌, map, length, get_or, Some, None, slice_index_or}
 use mathlib.Core.List.{Permᴰ}
 use Rattle.std.specs.List.{AllByRecursion as All}
 use Rattle.columnar.specs.Cells.{Cell, Ticks, cells, over}

@@ -11,7 +11,7 @@
 --     step ts t         the accumulators after a turn, and its outcome
 --     outcomes, after   the outcomes of turns, one for each, and the accumulators after them
 --     answers ls ts     the outcomes of turns made of fresh accumulators with these limits
-use Rattle.std.specs.Prelude.{ℕ, Bool, true, false, cond, List, [], ◌∷◌, map, length, set, Some, None, Option, slice_index_or, slice_set}
+use Rattle.std.specs.Prelude.{ℕ, cond, List, [], ◌∷◌, map, length, set, Some, None, Option, slice_index_or, slice_set}
 use Rattle.columnar.specs.declared.refusal.Refusal.{Refusal}
 use Rattle.columnar.specs.Cells.{Cell, Column, Ticks, cells}
 use Rattle.buffers.specs.Memory.{Layout, Room}

@@ -1,15 +1,14 @@
 -- What lies under nulls, in rows that are not let through and in null ticks reaches nothing.
-use Rattle.std.proofs.Common.{◌≡◌, ℕ, zero, suc, ◌+◌, ◌-◌, Bool, true, false, cond, not, ◌&&◌, ◌||◌, eqb, ltb, List, [], ◌∷◌, map, length, set, is_some, Some, None, sum_by, Option, sym, refl, ap, ◌∙◌, ap₂}
+use Rattle.std.proofs.Common.{◌≡◌, ℕ, suc, ◌+◌, ◌-◌, Bool, true, false, cond, not, ◌&&◌, ◌||◌, eqb, ltb, List, [], ◌∷◌, map, length, set, is_some, Some, None, sum_by, sym, refl, ap, ◌∙◌, ap₂}
 use Rattle.std.proofs.lemmas.Bool.{true≢false, false≢true}
-use Rattle.columnar.specs.Cells.{Cell, Column, Ticks, seen, passes, nulls}
+use Rattle.columnar.specs.Cells.{Cell, Ticks, seen, passes, nulls}
 use Rattle.buffers.specs.Memory.{Room, short}
 use Rattle.groups.specs.Lists.{change, deal, zip, all_below, names_from}
 use Rattle.groups.specs.Kind.{Kind, read}
-use Rattle.groups.specs.Tally.{Means, refusal, convert_conditions, differs, turned, converts_masked, admitted, with_credits, opened, with_rows, with_states, row_credits, state_column}
+use Rattle.groups.specs.Tally.{Means, refusal, convert_conditions, differs, turned, converts_masked, admitted, with_credits, opened, with_rows, row_credits, state_column}
 use Rattle.turns.specs.Lists.{Each, EachRow}
-use Rattle.turns.specs.Turns.{Turn, Outcome, Sent, Layouts, Step, at, ruled, sent_cells, named, called, step, outcomes}
-use Rattle.turns.specs.Turns.Turn.{update, merge, convert, evaluate, state, peek, forget, hand_over}
-use Rattle.turns.specs.Turns.Outcome.{done, showed, wrote, refused, taker_refused, no_such}
+use Rattle.turns.specs.Turns.{Turn, Sent, Layouts, Step, at, ruled, sent_cells, step, outcomes}
+use Rattle.turns.specs.Turns.Outcome.{done, wrote, no_such}
 use Rattle.turns.specs.Theorem.{Agree, TicksAgree, RowAgrees, BatchAgrees, SentAgrees, AlikeButHidden, same, updates, converts, merges}
 use Rattle.turns.proofs.Eachs.{each_length}
 use Rattle.turns.proofs.Batches.{nulls_cons}
