@@ -1,8 +1,8 @@
 -- Worked cases of views and buffers.
-use Rattle.std.specs.Prelude.{◌≡◌, ℕ, ◌-◌, ◌^◌, Bool, true, false, List, [], ◌∷◌, ℤ, pos, negsuc, Some, None}
+use Rattle.std.specs.Prelude.{◌≡◌, ℕ, ◌-◌, ◌^◌, true, false, [], ◌∷◌, pos, negsuc, Some, None}
 use Rattle.columnar.specs.declared.refusal.Refusal.TheVariants.{BitsOutOfBytes, MaskLength, Offsets}
 use Rattle.columnar.specs.Packed.{bit_row, packed}
-use Rattle.columnar.specs.Cells.{Cell, Column, cell, passes}
+use Rattle.columnar.specs.Cells.{Column, cell, passes}
 use Rattle.columnar.specs.Rows.{column_cells, boolean_cells, ticks_of}
 use Rattle.columnar.specs.Lists.{list_row, list_cells}
 use Rattle.columnar.specs.Refusals.{number_of, bits_refusal, lengths_refusal, offsets_refusal}

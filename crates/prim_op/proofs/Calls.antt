@@ -1,10 +1,9 @@
 -- What the calls know of the memory, put as meanings.
-use Rattle.std.proofs.Common.{◌≡◌, ℕ, ◌-◌, ◌<◌, ◌≤◌, Bool, true, false, cond, not, ◌&&◌, ◌||◌, eqb, ltb, List, [], ◌∷◌, ◌++◌, map, length, get_or, take, set, is_some, IfSome, Some, None, sum_by, Option, unwrap_or, sym, refl, ap, ◌∙◌, ap₂, arith}
+use Rattle.std.proofs.Common.{◌≡◌, ℕ, ◌-◌, ◌<◌, ◌≤◌, Bool, true, false, cond, not, ◌&&◌, ◌||◌, eqb, ltb, List, [], ◌∷◌, map, length, get_or, take, set, is_some, IfSome, Some, None, sum_by, Option, unwrap_or, sym, refl, ap, ◌∙◌, arith}
 use Rattle.std.specs.Option.{option_map}
 use Rattle.std.specs.List.{AllByRecursion as All}
 use Rattle.std.proofs.lemmas.List.{length-take-le}
 use Rattle.std.proofs.lemmas.Bool.{eq-eqb, and_parts, or_parts, ltb-false, not-true}
-use Rattle.columnar.specs.declared.refusal.Refusal.{Refusal}
 use Rattle.columnar.specs.Cells.{Cell, Ticks, passes, all_pass, nulls}
 use Rattle.groups.specs.Lists.{all_below, names_from, has}
 use Rattle.groups.specs.Lines.{batch_line}

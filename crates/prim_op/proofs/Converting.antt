@@ -1,8 +1,7 @@
 -- Rows as state rows.
-use Rattle.std.proofs.Common.{◌≡◌, ℕ, ◌≤◌, Bool, true, false, cond, not, eqb, ltb, List, [], ◌∷◌, map, length, is_some, Some, None, Option, unwrap_or, sym, refl, ap, ◌∙◌}
+use Rattle.std.proofs.Common.{◌≡◌, ℕ, ◌≤◌, Bool, true, false, cond, not, eqb, ltb, List, [], ◌∷◌, map, length, is_some, Some, None, unwrap_or, sym, refl, ap, ◌∙◌}
 use Rattle.std.specs.Option.{option_map}
 use Rattle.std.proofs.lemmas.Bool.{cond-false, le-ltb, eq-eqb}
-use Rattle.columnar.specs.declared.refusal.Refusal.{Refusal}
 use Rattle.columnar.specs.declared.refusal.Refusal.TheVariants.{TooManyRows, FilterLength, ShortBuffer}
 use Rattle.columnar.specs.Cells.{Cell, Ticks, seen, over, handed, passes, admitted_rows, kept_rows}
 use Rattle.buffers.specs.Memory.{Shaped}

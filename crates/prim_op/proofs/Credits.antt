@@ -1,7 +1,7 @@
 -- Visits as they change the memory, and as they change the credits.
-use Rattle.std.proofs.Common.{◌≡◌, ℕ, zero, suc, ◌+◌, ◌-◌, ◌<◌, ◌≤◌, Bool, true, false, cond, not, ◌&&◌, ◌||◌, ltb, List, [], ◌∷◌, ◌++◌, map, length, get_or, take, drop, set, replicate, is_some, Some, None, sum_by, Option, sym, refl, ap, ◌∙◌, ap₂, arith}
+use Rattle.std.proofs.Common.{◌≡◌, ℕ, zero, suc, Bool, true, false, cond, ◌&&◌, List, [], ◌∷◌, map, get_or, set, Some, None, Option, sym, refl, ap, ◌∙◌, arith}
 use Rattle.std.specs.List.{AllByRecursion as All}
-use Rattle.columnar.specs.Cells.{Cell, seen, over, passes, nulls}
+use Rattle.columnar.specs.Cells.{Cell, seen}
 use Rattle.groups.specs.Lists.{change, deal}
 use Rattle.groups.specs.Tally.{admitted}
 use Rattle.walk.specs.Visits.{visits}

@@ -1,5 +1,5 @@
 -- A merge is an update with no filter.
-use Rattle.std.proofs.Common.{◌≡◌, ℕ, ◌||◌, ltb, List, [], ◌∷◌, map, length, None, Option, sym, refl, ap}
+use Rattle.std.proofs.Common.{◌≡◌, ℕ, ltb, List, [], ◌∷◌, map, length, None, Option, sym, refl, ap}
 use Rattle.columnar.specs.Cells.{Cell, seen, all_pass, nulls}
 use Rattle.groups.specs.Lists.{change, deal, zip}
 use Rattle.groups.specs.Kind.{read, by_nulls}

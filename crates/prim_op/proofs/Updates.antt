@@ -1,12 +1,12 @@
 -- An accepted update: the credits in memory are those of the definition.
-use Rattle.std.proofs.Common.{◌≡◌, ℕ, zero, suc, ◌+◌, ◌-◌, ◌<◌, ◌≤◌, Bool, true, false, cond, not, ◌&&◌, ◌||◌, eqb, ltb, ◌⊎◌, List, [], ◌∷◌, ◌++◌, map, length, get_or, take, drop, set, replicate, Some, None, sum_by, Option, sym, refl, ap, ◌∙◌, ap₂, inl, inr, ⊎_elim, arith}
+use Rattle.std.proofs.Common.{◌≡◌, ℕ, zero, suc, ◌+◌, ◌-◌, ◌<◌, ◌≤◌, Bool, true, false, cond, not, ◌&&◌, ◌||◌, eqb, ◌⊎◌, List, [], ◌∷◌, ◌++◌, map, length, get_or, take, set, replicate, Some, None, Option, sym, refl, ap, ◌∙◌, ap₂, inl, inr, ⊎_elim, arith}
 use lib.Seq.{take-set-lt}
 use Rattle.std.specs.List.{AllByRecursion as All}
-use Rattle.std.proofs.lemmas.List.{same_lists, length-append, length-replicate, length-take-le, length-set, get_or-take, get_or-replicate, get_or_append_left, get_or-set_same, replicate-append-replicate}
+use Rattle.std.proofs.lemmas.List.{same_lists, length-append, length-replicate, length-take-le, length-set, get_or-take, get_or-replicate, get_or_append_left, get_or-set_same}
 use Rattle.std.proofs.lemmas.List.Sums.{sum_by-cons}
 use Rattle.std.proofs.lemmas.Bool.{both_ways, eqb-true, and_parts, cases_lt}
-use Rattle.columnar.specs.Cells.{Cell, Ticks, seen, passes, all_pass, nulls}
-use Rattle.groups.specs.Lists.{change, deal, has, names_from}
+use Rattle.columnar.specs.Cells.{Cell, seen, all_pass, nulls}
+use Rattle.groups.specs.Lists.{deal, has, names_from}
 use Rattle.groups.specs.Tally.{admitted}
 use Rattle.walk.specs.Visits.{visits}
 use Rattle.groups.specs.Seen.{in_force}

@@ -1,5 +1,5 @@
 -- Which rows are let through, by row number.
-use Rattle.std.proofs.Common.{◌≡◌, ℕ, zero, suc, ◌+◌, ◌*◌, ◌≤◌, Bool, true, ◌&&◌, List, [], ◌∷◌, map, length, IfSome, Some, None, Option, sym, refl, ap, ◌∙◌, subst}
+use Rattle.std.proofs.Common.{◌≡◌, ℕ, zero, suc, ◌+◌, ◌*◌, ◌≤◌, Bool, true, ◌&&◌, List, ◌∷◌, map, length, IfSome, Some, Option, sym, refl, ap, ◌∙◌, subst}
 use Rattle.std.specs.List.{range_with_len}
 use Rattle.columnar.specs.Cells.{all_pass, ticked}
 use Rattle.columnar.specs.Packed.{bit_at}

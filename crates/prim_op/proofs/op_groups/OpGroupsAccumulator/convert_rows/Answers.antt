@@ -1,4 +1,4 @@
-use Rattle.std.proofs.Common.{◌≡◌, Bool, true, false, cond, not, length, Some, None, Option, unwrap_or, sym, refl, ap, ◌∙◌}
+use Rattle.std.proofs.Common.{◌≡◌, true, false, cond, length, Some, None, unwrap_or, sym, refl, ap, ◌∙◌}
 use Rattle.std.proofs.lemmas.Bool.{not-true, not-false}
 use Rattle.columnar.specs.declared.refusal.Refusal.TheVariants.{ShortBuffer}
 use Rattle.columnar.specs.Cells.{passes, kept_rows}

@@ -1,6 +1,5 @@
-use Rattle.std.proofs.Common.{◌≡◌, None, sym, ap, ◌∙◌}
+use Rattle.std.proofs.Common.{ap, ◌∙◌}
 use Rattle.std.specs.Result.{result_err}
-use Rattle.columnar.specs.Views.{ticks}
 use Rattle.groups.specs.Tally.{unless, update_refusal, updated}
 use Rattle.operations.specs.Primitive.{primitive}
 use Rattle.prim_op.specs.Means.{meaning_of}

@@ -1,4 +1,4 @@
-use Rattle.std.proofs.Common.{◌≡◌, ◌-◌, ◌++◌, take, replicate, refl, ap, ◌∙◌, arith}
+use Rattle.std.proofs.Common.{◌-◌, ◌++◌, take, replicate, refl, ap, ◌∙◌, arith}
 use Rattle.groups.proofs.Marking.{take_refilled}
 use Rattle.prim_op.specs.Means.{values_of}
 use Rattle.prim_op.proofs.op_groups.OpGroupsAccumulator.open.Goals as goal

@@ -1,8 +1,8 @@
-use Rattle.std.proofs.Common.{◌≡◌, ℕ, ◌-◌, ◌≤◌, Bool, not, List, length, take, drop, sym, refl, ap, ◌∙◌, subst, arith}
+use Rattle.std.proofs.Common.{◌≡◌, ◌≤◌, Bool, List, length, take, drop, sym, refl, ap, ◌∙◌, subst, arith}
 use Rattle.std.proofs.lemmas.List.{length-take-le}
-use Rattle.groups.specs.Emits.{count_of, others}
+use Rattle.groups.specs.Emits.{count_of}
 use Rattle.groups.specs.Moves.{moved_down}
-use Rattle.groups.specs.Seen.{is_plain, in_force}
+use Rattle.groups.specs.Seen.{is_plain}
 use Rattle.groups.proofs.Marking.{take_moved}
 use Rattle.prim_op.specs.Kept.{credits_of, Unset}
 use Rattle.prim_op.specs.Means.{marks_of, values_of}

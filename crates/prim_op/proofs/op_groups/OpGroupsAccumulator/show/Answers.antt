@@ -1,9 +1,7 @@
-use Rattle.std.proofs.Common.{◌≡◌, ℕ, ◌≤◌, Bool, true, false, not, List, length, take, sym, refl, ap, ◌∙◌, ap₂, arith}
-use Rattle.std.specs.Result.{result_err}
+use Rattle.std.proofs.Common.{◌≡◌, ◌≤◌, true, false, length, sym, refl, ap, ◌∙◌, ap₂, arith}
 use Rattle.std.proofs.lemmas.Bool.{cond-true, cond-false, lt-ltb, le-ltb, not-true, not-false}
 use Rattle.buffers.specs.Memory.{flat_column, short, stored}
 use Rattle.buffers.proofs.Rooms.{flat_shaped}
-use Rattle.groups.specs.Emits.{count_of}
 use Rattle.groups.specs.Tally.{answer}
 use Rattle.operations.specs.Primitive.{primitive}
 use Rattle.groups.specs.Seen.{is_plain}

@@ -1,4 +1,4 @@
-use Rattle.std.proofs.Common.{◌≡◌, ℕ, ◌-◌, ◌<◌, ◌≤◌, min, Bool, true, false, not, ◌&&◌, ◌||◌, ltb, List, ◌++◌, map, length, take, replicate, is_some, Some, None, Option, unwrap_or, sym, refl, ap, ◌∙◌, subst, arith, rules}
+use Rattle.std.proofs.Common.{◌≡◌, ◌-◌, ◌<◌, ◌≤◌, min, Bool, false, not, ◌||◌, ltb, List, ◌++◌, map, length, take, replicate, is_some, None, unwrap_or, sym, refl, ap, ◌∙◌, subst, arith}
 use Rattle.std.specs.Option.{option_map}
 use Rattle.std.proofs.ByRecursion.{All-weaker}
 use Rattle.std.proofs.lemmas.Result.{err_from_is_err_and}
@@ -7,9 +7,9 @@ use Rattle.columnar.specs.Cells.{passes, nulls, seen}
 use Rattle.columnar.specs.Views.{ticks}
 use Rattle.groups.specs.Lists.{deal}
 use Rattle.groups.specs.Lines.{batch_line}
-use Rattle.groups.specs.Tally.{refusal, update_refusal, unless, admitted}
+use Rattle.groups.specs.Tally.{refusal, admitted}
 use Rattle.groups.proofs.Accepting.{accepted, named}
-use Rattle.operations.specs.Primitive.{primitive, join_by}
+use Rattle.operations.specs.Primitive.{join_by}
 use Rattle.groups.specs.Seen.{is_plain, in_force}
 use Rattle.walk.specs.Visits.{visits}
 use Rattle.prim_op.specs.Kept.{credits_of, Unset}
@@ -36,7 +36,7 @@ returns-in_err-refuse g c =
     ∙ ap (λ n. refusal (batch_line s.most_rows s.most_groups kept n c.args.group_indices.now c.ticked.result c.args.total)) c.len.ensures
     ∙ ap (λ q. refusal (batch_line s.most_rows s.most_groups kept (length rows) c.args.group_indices.now q c.args.total)) c.ticked.ensures
     ∙ update_line o.start o.rule (meaning_of s) kept many refl rows f c.args.group_indices.now c.args.total in
-    let p = err_from_is_err_and c.from-residual.result c.from-residual.ensures.1 in
+    let p = err_from_is_err_and c.from_residual.result c.from_residual.ensures.1 in
     rw (p.1, p.2) record {
       stays = record { kept_limit = c.requires.kept_limit; limit_values = c.requires.limit_values; limit_marks = omega arith; unset = subst P (sym same) c.requires.unset };
       answer = line;
