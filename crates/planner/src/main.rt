@@ -1,6 +1,6 @@
+//! Each group's figures for a day, from a file of rows.
 #![tactic(auto)]
 
-//! Each group's figures for a day, from a file of rows.
 mod day;
 mod divide;
 mod fault;
@@ -22,6 +22,7 @@ use crate::figures::Figures;
 use crate::options::Options;
 use crate::plan::Plan;
 use crate::report::print_report;
+use std::process::ExitCode;
 use std::{env, fs};
 
 /// Reads the file. Bytes that are no text become a mark that no field takes, so that their line is reported.
@@ -45,10 +46,12 @@ fn run(rt: &HostRuntime) -> Result<(), Fault> {
     print_report(rt, &day, &plan, &figures, division)
 }
 
-fn main(rt: HostRuntime) -> Result<(), Fault> {
-    let result = run(&rt);
-    if let Err(fault) = &result {
-        eprintln!(rt; "planner: {fault}")?;
+fn main(rt: HostRuntime) -> ExitCode {
+    match run(&rt) {
+        Ok(()) => ExitCode::SUCCESS,
+        Err(fault) => {
+            let _ = eprintln!(rt; "planner: {fault}");
+            ExitCode::FAILURE
+        }
     }
-    result
 }

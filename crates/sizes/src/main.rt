@@ -1,6 +1,6 @@
+//! Batches at the limits of an accumulator: what is accepted, and by which number the others are refused.
 #![tactic(auto)]
 
-//! Batches at the limits of an accumulator: what is accepted, and by which number the others are refused.
 use buffers::buffers::PrimitiveBuffers;
 use columnar::column::PrimitiveColumn;
 use columnar::filter::Filter;

@@ -1,6 +1,5 @@
-#![tactic(auto)]
-
 //! Turns of several accumulators of one kind: what comes of them, the book of the rows credited, and the theorem over whole runs.
+#![tactic(auto)]
 
 ghost use Rattle.turns.specs.Theorem.{RunsHold, InOrder, InAnyOrder};
 
