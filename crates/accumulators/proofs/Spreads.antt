@@ -2,7 +2,7 @@
 use Rattle.std.proofs.Common.{◌≡◌, ◌⊎◌, List, [], ◌∷◌, ℤ, pos, ◌+ℤ◌, ◌-ℤ◌, nat_abs, ◌≤ℤ◌, Some, None, Option, sym, refl, ap, ◌∙◌, subst, inl, inr, ⊎_elim, arith}
 use Rattle.std.specs.Int.{int_min, int_max}
 use Rattle.std.specs.Option.{option_map}
-use Rattle.std.specs.List.{ContainsAt as Has, AllByRecursion as All}
+use Rattle.std.specs.List.{ContainsAt as Has, AllByRecursion}
 use Rattle.std.proofs.ByRecursion.{All-weaker, has_append_right}
 use Rattle.std.proofs.lemmas.Int.{ints, clamps}
 use Rattle.std.proofs.lemmas.Bool.{cases_cond}
@@ -70,7 +70,7 @@ farthest vs e b =
     let d = spread e in
     let reach = apart e.least e.greatest e.ordered in (
       (e.least, e.greatest, b.0.0, b.1.0, reach),
-      All-weaker (λ v. e.least ≤ℤ v) (λ v. All (λ w. w ≤ℤ (v +ℤ pos d)) vs)
+      All-weaker (λ v. e.least ≤ℤ v) (λ v. AllByRecursion (λ w. w ≤ℤ (v +ℤ pos d)) vs)
           (λ v low. All-weaker (λ w. w ≤ℤ e.greatest) (λ w. w ≤ℤ (v +ℤ pos d)) (λ w high. omega (arith, ints, reach)) vs b.1.1)
           vs b.0.1,
     )

@@ -1,6 +1,6 @@
 -- What a batch that is not refused has.
 use Rattle.std.proofs.Common.{◌≡◌, ℕ, ◌-◌, ◌<◌, ◌≤◌, Bool, true, false, cond, not, eqb, ltb, List, [], ◌∷◌, length, Some, None, Option, unwrap_or, refl, ap, ◌∙◌, arith}
-use Rattle.std.specs.List.{AllByRecursion as All}
+use Rattle.std.specs.List.{AllByRecursion}
 use Rattle.std.proofs.lemmas.Bool.{ltb-false, ltb-true, eqb-true, not-false, and_parts}
 use Rattle.columnar.specs.declared.refusal.Refusal.{Refusal}
 use Rattle.columnar.specs.declared.refusal.Refusal.TheVariants.{TooManyRows, IndexCount, FilterLength, TotalBelowKept, TotalAboveLimit, IndexAboveTotal, GroupNotNamed}
@@ -12,7 +12,7 @@ peel : {E : Type 0} (b : Bool) (e : E) (rest : Option E) → cond b (Some e) res
 peel true e rest h = let z : ◌≡◌ {A = ℕ} 0 1 = cc in absurd (omega arith)
 peel false e rest h = (refl, h)
 
-all_below_lem : (total : ℕ) (gs : List ℕ) → all_below total gs ≡ true → All (λ k. k < total) gs
+all_below_lem : (total : ℕ) (gs : List ℕ) → all_below total gs ≡ true → AllByRecursion (λ k. k < total) gs
 all_below_lem total [] h = tt
 all_below_lem total (g ∷ gs) h = let s = and_parts (ltb g total) (all_below total gs) h in (ltb-true g total s.0, all_below_lem total gs s.1)
 
@@ -48,7 +48,7 @@ pub record Accepted (most_rows most_groups kept rows : ℕ) (gs : List ℕ) (tic
   pub filter : unwrap_or ticked rows ≡ rows
   pub order : kept ≤ total
   pub room : total ≤ most_groups
-  pub below : All (λ k. k < total) gs
+  pub below : AllByRecursion (λ k. k < total) gs
 
 module _ (most_rows most_groups kept rows : ℕ) (gs : List ℕ) (ticked : Option ℕ) (total : ℕ) where
   abbrev pub line : Option Refusal → Option Refusal

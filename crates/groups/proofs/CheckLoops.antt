@@ -1,6 +1,6 @@
 -- Loops of the checks.
 use Rattle.std.proofs.Common.{◌≡◌, ℕ, ◌+◌, ◌-◌, ◌<◌, ◌≤◌, Bool, true, false, ◌&&◌, ltb, leb, List, [], ◌∷◌, ◌++◌, length, get_or, take, drop, set, replicate, sym, ap, ◌∙◌, arith}
-use Rattle.std.specs.List.{AllByRecursion as All}
+use Rattle.std.specs.List.{AllByRecursion}
 use Rattle.std.proofs.lemmas.List.{append_assoc, length-take-le, length-replicate, set-append_right, drop_more, take-append-drop, replicate_more, at_drop_more, at_drop_all}
 use Rattle.std.proofs.ByRecursion.{All-get_or}
 use Rattle.std.proofs.lemmas.Bool.{cond-true, cond-false}
@@ -39,7 +39,7 @@ module _ (total : ℕ) (gs : List ℕ) where
   pub below_all : (i : ℕ) → length gs ≤ i → all_below total (drop i gs) ≡ all_below total gs → true ≡ all_below total gs
   below_all i l w = sym (at_drop_all (all_below total) gs i l) ∙ w
 
-pub index_below : (n : ℕ) (gs : List ℕ) (i : ℕ) → All (λ k. k < n) gs → i < length gs → get_or gs i 0 < n
+pub index_below : (n : ℕ) (gs : List ℕ) (i : ℕ) → AllByRecursion (λ k. k < n) gs → i < length gs → get_or gs i 0 < n
 index_below n gs i all h = All-get_or (λ k. k < n) gs i 0 h all
 
 module _ (kept : ℕ) (m₀ : List Bool) (gs : List ℕ) where

@@ -1,7 +1,7 @@
 ghost use Rattle.std.specs.Prelude.{◌≡◌, ℕ, ◌+◌, ◌-◌, ◌<◌, ◌≤◌, Bool, true, false, not, List, [], ◌∷◌, length, take, Decides, slice_index_or, ◌==◌, nat_lt};
 ghost use Rattle.std.specs.Option.{unwrap_or};
 ghost use Rattle.std.specs.Result.{result_err};
-ghost use Rattle.std.specs.List.{AllByRecursion as All};
+ghost use Rattle.std.specs.List.{AllByRecursion};
 ghost use Rattle.groups.specs.Lists.{all_below, names_from};
 ghost use Rattle.groups.specs.Lines.{batch_line};
 ghost use Rattle.groups.specs.Named.{named_marks};
@@ -59,7 +59,7 @@ fn refuse_batch(
 
 /// Sets a mark for each group that is named and not kept yet.
 fn mark_named(marks: &mut [bool], group_indices: &[usize], kept: usize)
-    requires { All (λ k. k < length marks.old) group_indices.now }
+    requires { AllByRecursion (λ k. k < length marks.old) group_indices.now }
     ensures { marks.new ≡ named_marks kept marks.old group_indices.now }
 {
     for group in group_indices {
@@ -87,7 +87,7 @@ fn all_set(marks: &[bool], from: usize, to: usize) -> bool
 fn names_all(marks: &mut [bool], group_indices: &[usize], kept: usize, total: usize) -> bool
     requires order { kept ≤ total }
     requires within { total ≤ length marks.old }
-    requires named { All (λ k. k < total) group_indices.now }
+    requires named { AllByRecursion (λ k. k < total) group_indices.now }
     ensures answer { result ≡ names_from kept (total - kept) group_indices.now }
     ensures marks { take kept marks.new ≡ take kept marks.old }
 {

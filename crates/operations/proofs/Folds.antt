@@ -2,7 +2,7 @@
 use Rattle.std.proofs.Common.{◌≡◌, ℕ, zero, suc, ◌+◌, ◌%◌, ◌^◌, ◌<◌, Bool, true, false, cond, not, ◌&&◌, ◌||◌, ◌⊎◌, List, [], ◌∷◌, length, get_or, ℤ, pos, ◌+ℤ◌, ◌≤ℤ◌, Some, None, Decides, sum, count_by, Option, sym, refl, ap, ◌∙◌, subst, inl, inr, ⊎_elim, mod-eq_of_lt, arith, w64, SFits}
 use native.Mathlib.Nat.{add-mod-mod}
 use Rattle.std.specs.Int.{int_min, int_max, int_wrap}
-use Rattle.std.specs.List.{ContainsAt as Has, AllByRecursion as All}
+use Rattle.std.specs.List.{ContainsAt as Has, AllByRecursion}
 use Rattle.std.proofs.ByRecursion.{All-weaker, has_append_right}
 use Rattle.std.proofs.lemmas.Int.{ints, clamps, int_wrap_fits, int_wrap-add_right}
 use Rattle.std.proofs.lemmas.List.Sums.{sum_by-cons}
@@ -21,12 +21,12 @@ module _ {E : Type 0} (rule : E → E → E) (Q : E → Type 0) (P : List E → 
   before x [] c q e = (x, ap (join_by rule (Some x)) e, one x q)
   before x (v ∷ vs) c q s = (rule x s.0, ap (join_by rule (Some x)) s.1, more x (v ∷ vs) s.0 q s.2)
 
-  shows : (start : E) (rs : List (Option E)) → All Q (values rs) → Shows P (values rs) (shown_of start rule rs)
+  shows : (start : E) (rs : List (Option E)) → AllByRecursion Q (values rs) → Shows P (values rs) (shown_of start rule rs)
   shows start [] q = refl
   shows start (None ∷ rs) q = shows start rs q
   shows start (Some x ∷ rs) q = before x (values rs) (joined (primitive start rule) rs) q.0 (shows start rs q.1)
 
-known : {E : Type 0} (vs : List E) → All (λ v. Unit {0}) vs
+known : {E : Type 0} (vs : List E) → AllByRecursion (λ v. Unit {0}) vs
 known [] = tt
 known (v ∷ vs) = (tt, known vs)
 
@@ -60,9 +60,9 @@ has_later x vs v h = has_append_right (x ∷ []) vs v h
 
 -- a rule that picks one of the two, which neither bound passes
 module _ {E : Type 0} (rule : E → E → E) (Bounds : E → E → Type 0) (itself : (x : E) → Bounds x x) (onward : (a b c : E) → Bounds a b → Bounds b c → Bounds a c) (picks : (x y : E) → (rule x y ≡ x) ⊎ (rule x y ≡ y)) (left : (x y : E) → Bounds (rule x y) x) (right : (x y : E) → Bounds (rule x y) y) where
-  bounds : (start : E) (rs : List (Option E)) → Shows (λ vs m. Has vs m × All (λ v. Bounds m v) vs) (values rs) (shown_of start rule rs)
+  bounds : (start : E) (rs : List (Option E)) → Shows (λ vs m. Has vs m × AllByRecursion (λ v. Bounds m v) vs) (values rs) (shown_of start rule rs)
   bounds start rs =
-      shows rule (λ v. Unit {0}) (λ vs m. Has vs m × All (λ v. Bounds m v) vs)
+      shows rule (λ v. Unit {0}) (λ vs m. Has vs m × AllByRecursion (λ v. Bounds m v) vs)
       (λ x k. (has_first x [], (itself x, tt)))
       (λ x vs m k p. (
         ⊎_elim
@@ -99,7 +99,7 @@ itself b = (λ e. e, λ e. e)
 
 pub shows_all : (start : Bool) → ShowsAll start ◌&&◌
 shows_all start rs =
-    shows ◌&&◌ (λ v. Unit {0}) (λ vs m. Decides m (All (λ v. v ≡ true) vs))
+    shows ◌&&◌ (λ v. Unit {0}) (λ vs m. Decides m (AllByRecursion (λ v. v ≡ true) vs))
     (λ x k. (λ e. (e, tt), λ a. a.0))
     (λ x vs m k d. Decides-and x m (itself x) d)
     start rs (known (values rs))

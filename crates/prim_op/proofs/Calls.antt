@@ -1,7 +1,7 @@
 -- What the calls know of the memory, put as meanings.
 use Rattle.std.proofs.Common.{◌≡◌, ℕ, ◌-◌, ◌<◌, ◌≤◌, Bool, true, false, cond, not, ◌&&◌, ◌||◌, eqb, ltb, List, [], ◌∷◌, map, length, get_or, take, set, is_some, IfSome, Some, None, sum_by, Option, unwrap_or, sym, refl, ap, ◌∙◌, arith}
 use Rattle.std.specs.Option.{option_map}
-use Rattle.std.specs.List.{AllByRecursion as All}
+use Rattle.std.specs.List.{AllByRecursion}
 use Rattle.std.proofs.lemmas.List.{length-take-le}
 use Rattle.std.proofs.lemmas.Bool.{eq-eqb, and_parts, or_parts, ltb-false, not-true}
 use Rattle.columnar.specs.Cells.{Cell, Ticks, passes, all_pass, nulls}
@@ -30,13 +30,13 @@ pub forced_same : (plain : Bool) (kept : ℕ) (ms ns : List Bool) → take kept 
 forced_same true kept ms ns e = refl
 forced_same false kept ms ns e = e
 
-pub visits_below : {V : Type 0} (n : ℕ) (gs : List ℕ) (rows : List (Cell V)) (ps : List Bool) → All (λ k. k < n) gs → All (λ (v : ℕ × V). v.0 < n) (visits gs rows ps)
+pub visits_below : {V : Type 0} (n : ℕ) (gs : List ℕ) (rows : List (Cell V)) (ps : List Bool) → AllByRecursion (λ k. k < n) gs → AllByRecursion (λ (v : ℕ × V). v.0 < n) (visits gs rows ps)
 visits_below n [] rows ps h = tt
 visits_below n (g ∷ gs) [] ps h = tt
 visits_below n (g ∷ gs) (r ∷ rows) [] h = tt
 visits_below {V} n (g ∷ gs) (r ∷ rows) (p ∷ ps) h =
     let rest = visits_below n gs rows ps h.1 in
-    elim (r.valid && p) as (λ b. All (λ (v : ℕ × V). v.0 < n) (cond b ((g, r.figure) ∷ visits gs rows ps) (visits gs rows ps))) [ true ↦ (h.0, rest) | false ↦ rest ]
+    elim (r.valid && p) as (λ b. AllByRecursion (λ (v : ℕ × V). v.0 < n) (cond b ((g, r.figure) ∷ visits gs rows ps) (visits gs rows ps))) [ true ↦ (h.0, rest) | false ↦ rest ]
 
 -- ── the length of a filter ───────────────────────────────────────────────
 pub differs_is : (f : Ticks) (n : ℕ) → differs f n ≡ not (eqb (unwrap_or (option_map length f) n) n)

@@ -1,6 +1,6 @@
 -- Visits as they change the memory, and as they change the credits.
 use Rattle.std.proofs.Common.{◌≡◌, ℕ, zero, suc, Bool, true, false, cond, ◌&&◌, List, [], ◌∷◌, map, get_or, set, Some, None, Option, sym, refl, ap, ◌∙◌, arith}
-use Rattle.std.specs.List.{AllByRecursion as All}
+use Rattle.std.specs.List.{AllByRecursion}
 use Rattle.columnar.specs.Cells.{Cell, seen}
 use Rattle.groups.specs.Lists.{change, deal}
 use Rattle.groups.specs.Tally.{admitted}
@@ -31,7 +31,7 @@ module _ {E : Type 0} (start : E) (rule : E → E → E) (join : Option E → Op
   unset_step (m ∷ ms) (v ∷ vs) (suc k) y h = (h.0, unset_step ms vs k y h.1)
 
   -- all visits
-  pub credits_told : (ps : List (ℕ × E)) (ms : List Bool) (vs : List E) → Unset start ms vs → All (λ (p : ℕ × E). rule start p.1 ≡ p.1) ps → deal (λ c x. join c (Some x)) ps (credits_of ms vs) ≡ credits_of (marked_at ms ps) (combined_at start rule vs ps)
+  pub credits_told : (ps : List (ℕ × E)) (ms : List Bool) (vs : List E) → Unset start ms vs → AllByRecursion (λ (p : ℕ × E). rule start p.1 ≡ p.1) ps → deal (λ c x. join c (Some x)) ps (credits_of ms vs) ≡ credits_of (marked_at ms ps) (combined_at start rule vs ps)
   credits_told [] ms vs h u = refl
   credits_told (p ∷ ps) ms vs h u =
       ap (deal (λ c x. join c (Some x)) ps) (credit_step ms vs p.0 p.1 h u.0)

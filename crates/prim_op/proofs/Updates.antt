@@ -1,7 +1,7 @@
 -- An accepted update: the credits in memory are those of the definition.
 use Rattle.std.proofs.Common.{◌≡◌, ℕ, zero, suc, ◌+◌, ◌-◌, ◌<◌, ◌≤◌, Bool, true, false, cond, not, ◌&&◌, ◌||◌, eqb, ◌⊎◌, List, [], ◌∷◌, ◌++◌, map, length, get_or, take, set, replicate, Some, None, Option, sym, refl, ap, ◌∙◌, ap₂, inl, inr, ⊎_elim, arith}
 use lib.Seq.{take-set-lt}
-use Rattle.std.specs.List.{AllByRecursion as All}
+use Rattle.std.specs.List.{AllByRecursion}
 use Rattle.std.proofs.lemmas.List.{same_lists, length-append, length-replicate, length-take-le, length-set, get_or-take, get_or-replicate, get_or_append_left, get_or-set_same}
 use Rattle.std.proofs.lemmas.List.Sums.{sum_by-cons}
 use Rattle.std.proofs.lemmas.Bool.{both_ways, eqb-true, and_parts, cases_lt}
@@ -22,14 +22,14 @@ forced_length false kept marks h = length-take-le kept marks h
 
 -- ── the front of the memory ──────────────────────────────────────────────
 module _ {E : Type 0} (start : E) (rule : E → E → E) (n : ℕ) where
-  pub take_combined : (ps : List (ℕ × E)) (vs : List E) → All (λ (p : ℕ × E). p.0 < n) ps → take n (combined_at start rule vs ps) ≡ combined_at start rule (take n vs) ps
+  pub take_combined : (ps : List (ℕ × E)) (vs : List E) → AllByRecursion (λ (p : ℕ × E). p.0 < n) ps → take n (combined_at start rule vs ps) ≡ combined_at start rule (take n vs) ps
   take_combined [] vs h = refl
   take_combined (p ∷ ps) vs h =
       let k = p.0 in
       take_combined ps (set vs k (rule (get_or vs k start) p.1)) h.1
       ∙ ap (λ ws. combined_at start rule ws ps) (take-set-lt n vs k (rule (get_or vs k start) p.1) h.0 ∙ ap (λ y. set (take n vs) k (rule y p.1)) (sym (get_or-take n vs k start h.0)))
 
-  pub take_marked : (ps : List (ℕ × E)) (ms : List Bool) → All (λ (p : ℕ × E). p.0 < n) ps → take n (marked_at ms ps) ≡ marked_at (take n ms) ps
+  pub take_marked : (ps : List (ℕ × E)) (ms : List Bool) → AllByRecursion (λ (p : ℕ × E). p.0 < n) ps → take n (marked_at ms ps) ≡ marked_at (take n ms) ps
   take_marked [] ms h = refl
   take_marked (p ∷ ps) ms h = take_marked ps (set ms p.0 true) h.1 ∙ ap (λ ns. marked_at ns ps) (take-set-lt n ms p.0 true h.0)
 
@@ -108,8 +108,8 @@ pub record Told {E : Type 0} (start : E) (rule : E → E → E) (kept total : �
   pub order : kept ≤ total
   pub room_values : kept ≤ length V₀
   pub room_marks : kept ≤ length M₀
-  pub below : All (λ (p : ℕ × E). p.0 < total) ps
-  pub fit : All (λ (p : ℕ × E). rule start p.1 ≡ p.1) ps
+  pub below : AllByRecursion (λ (p : ℕ × E). p.0 < total) ps
+  pub fit : AllByRecursion (λ (p : ℕ × E). rule start p.1 ≡ p.1) ps
   pub unset : Unset start (in_force plain kept M₀) (take kept V₀)
   pub values_opened : take total V₁ ≡ take kept V₀ ++ replicate (total - kept) start
   pub values_told : V' ≡ combined_at start rule V₁ ps
@@ -124,7 +124,7 @@ opened_marks plain kept total M₀ = in_force plain kept M₀ ++ replicate (tota
 abbrev opened_values : {E : Type 0} → E → ℕ → ℕ → List E → List E
 opened_values start kept total V₀ = take kept V₀ ++ replicate (total - kept) start
 
-marks_agree : (plain plain' : Bool) {E : Type 0} (start : E) (rule : E → E → E) (kept total : ℕ) (M₀ M₁ M' : List Bool) (ps : List (ℕ × E)) → kept ≤ total → All (λ (p : ℕ × E). p.0 < total) ps
+marks_agree : (plain plain' : Bool) {E : Type 0} (start : E) (rule : E → E → E) (kept total : ℕ) (M₀ M₁ M' : List Bool) (ps : List (ℕ × E)) → kept ≤ total → AllByRecursion (λ (p : ℕ × E). p.0 < total) ps
     → (plain' ≡ false → take total M₁ ≡ opened_marks plain kept total M₀) → M' ≡ cond plain' M₁ (marked_at M₁ ps) → (plain' ≡ true → plain ≡ true)
     → (plain' ≡ true → (k : ℕ) → kept ≤ k → k < total → has k (map group_of ps) ≡ true) → in_force plain' total M' ≡ marked_at (opened_marks plain kept total M₀) ps
 marks_agree plain true start rule kept total M₀ M₁ M' ps h below opened told was covered =

@@ -1,7 +1,7 @@
 ghost use Rattle.std.specs.Prelude.{◌≡◌, ℕ, ◌-◌, ◌<◌, ◌≤◌, min, Bool, true, false, not, ◌&&◌, List, [], ◌∷◌, ◌++◌, length, take, replicate, IfSome, if◌then◌else◌, slice_index_or, slice_set};
 ghost use Rattle.groups.specs.Seen.{is_plain};
 ghost use Rattle.std.specs.Result.{result_err};
-ghost use Rattle.std.specs.List.{AllByRecursion as All};
+ghost use Rattle.std.specs.List.{AllByRecursion};
 ghost use Rattle.columnar.specs.Cells.{passes as let_through};
 ghost use Rattle.buffers.specs.Memory.{stored};
 ghost use Rattle.columnar.specs.Views.{ticks};
@@ -93,11 +93,11 @@ fn walk<T: Copy, C: Accumulate<T>, V: Visitor<T>>(
     visitor: &mut V,
 )
     requires even { length group_indices.now ≡ length (C.Rows.cells values.now) }
-    requires named { All (λ k. k < (V.Visitor.fixed visitor.old).0) group_indices.now }
+    requires named { AllByRecursion (λ k. k < (V.Visitor.fixed visitor.old).0) group_indices.now }
     requires ticked { IfSome (ticks opt_filter.now) (λ ts. length ts ≡ length group_indices.now) }
     ensures told { V.Visitor.model visitor.new ≡ told_all V.Visitor.after (V.Visitor.model visitor.old) (visits group_indices.now (C.Rows.cells values.now) (let_through (ticks opt_filter.now) (length group_indices.now))) }
     ensures same { V.Visitor.fixed visitor.new ≡ V.Visitor.fixed visitor.old }
-    ensures fits { All (λ v. V.Visitor.fit v.1) (visits group_indices.now (C.Rows.cells values.now) (let_through (ticks opt_filter.now) (length group_indices.now))) }
+    ensures fits { AllByRecursion (λ v. V.Visitor.fit v.1) (visits group_indices.now (C.Rows.cells values.now) (let_through (ticks opt_filter.now) (length group_indices.now))) }
 {
     values.accumulate(group_indices, opt_filter, visitor);
 }

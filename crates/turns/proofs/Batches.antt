@@ -1,6 +1,6 @@
 -- What an accepted call has, what a batch without filter and nulls is, and what columns say.
 use Rattle.std.proofs.Common.{◌≡◌, ℕ, suc, ◌+◌, ◌-◌, ◌≤◌, Bool, true, false, cond, not, eqb, ltb, List, [], ◌∷◌, map, length, is_some, Some, None, sum_by, Option, refl, ap, arith}
-use Rattle.std.specs.List.{AllByRecursion as All}
+use Rattle.std.specs.List.{AllByRecursion}
 use Rattle.std.proofs.lemmas.Bool.{not-false, cond-true, false≢true, eqb-true, ltb-false, le-ltb}
 use Rattle.std.proofs.lemmas.List.Sums.{sum_by-cons}
 use Rattle.columnar.specs.Cells.{Cell, Ticks, cell, over, handed, cells, masked_cells, nulls}
@@ -85,7 +85,7 @@ none_null r rs h = go r.valid (ltb-false 0 (nulls (r ∷ rs)) h) (nulls_cons r r
 abbrev pub Given : {V : Type 0} → Option V → Type 0
 Given {V} r = (v : V) × (r ≡ Some v)
 
-pub entries_given : {V : Type 0} (rows : List (Cell V)) (gs : List ℕ) → ltb 0 (nulls rows) ≡ false → All (λ e. Given e.1) (row_entries rows None gs)
+pub entries_given : {V : Type 0} (rows : List (Cell V)) (gs : List ℕ) → ltb 0 (nulls rows) ≡ false → AllByRecursion (λ e. Given e.1) (row_entries rows None gs)
 entries_given [] gs h = tt
 entries_given (r ∷ rs) [] h = tt
 entries_given (r ∷ rs) (g ∷ gs) h = let both = none_null r rs h in ((r.figure, cond-true r.valid _ _ both.0), entries_given rs gs both.1)
@@ -96,7 +96,7 @@ zip_heads [] (g ∷ gs) e = absurd (omega arith)
 zip_heads (r ∷ rs) [] e = absurd (omega arith)
 zip_heads (r ∷ rs) (g ∷ gs) e = ap (λ l. g ∷ l) (zip_heads rs gs (suc_same _ _ e))
 
-pub zip_valid : {X : Type 0} (rows : List (Cell X)) (gs : List ℕ) → ltb 0 (nulls rows) ≡ false → All (λ e. e.1.valid ≡ true) (zip gs rows)
+pub zip_valid : {X : Type 0} (rows : List (Cell X)) (gs : List ℕ) → ltb 0 (nulls rows) ≡ false → AllByRecursion (λ e. e.1.valid ≡ true) (zip gs rows)
 zip_valid rows [] h = tt
 zip_valid [] (g ∷ gs) h = tt
 zip_valid (r ∷ rs) (g ∷ gs) h = let both = none_null r rs h in (both.0, zip_valid rs gs both.1)
@@ -108,11 +108,11 @@ module _ {X : Type 0} (filler : X) where
   masked_column (None ∷ os) = ap (λ l. over filler None ∷ l) (masked_column os)
   masked_column (Some x ∷ os) = ap (λ l. over filler (Some x) ∷ l) (masked_column os)
 
-  plain_column : (os : List (Option X)) → All (λ o. is_some o ≡ true) os → map (cell true) (map (λ o. (over filler o).figure) os) ≡ map (over filler) os
+  plain_column : (os : List (Option X)) → AllByRecursion (λ o. is_some o ≡ true) os → map (cell true) (map (λ o. (over filler o).figure) os) ≡ map (over filler) os
   plain_column [] e = refl
   plain_column (None ∷ os) e = absurd (false≢true e.0)
   plain_column (Some x ∷ os) e = ap (λ l. over filler (Some x) ∷ l) (plain_column os e.1)
 
-  pub cells_handed : (b : Bool) (os : List (Option X)) → (b ≡ false → All (λ o. is_some o ≡ true) os) → cells (handed b filler os) ≡ map (over filler) os
+  pub cells_handed : (b : Bool) (os : List (Option X)) → (b ≡ false → AllByRecursion (λ o. is_some o ≡ true) os) → cells (handed b filler os) ≡ map (over filler) os
   cells_handed true os h = masked_column os
   cells_handed false os h = plain_column os (h refl)

@@ -1,7 +1,7 @@
 -- Entries dealt to places: what a place gets, and that each place that is named gets something.
 use Rattle.std.proofs.Common.{◌≡◌, ℕ, zero, suc, ◌+◌, ◌<◌, ◌≤◌, true, ◌⊎◌, List, [], ◌∷◌, ◌++◌, map, length, get_or, replicate, sym, refl, ap, ◌∙◌, subst, inl, inr, arith, length-append}
 use lib.ListN.{length-replicate}
-use Rattle.std.specs.List.{AllByRecursion as All}
+use Rattle.std.specs.List.{AllByRecursion}
 use Rattle.std.proofs.lemmas.List.{get_or_append_left}
 use Rattle.std.proofs.ByRecursion.{All-get_or, All-from_get_or}
 use Rattle.std.proofs.lemmas.Bool.{cases_eq, cases_lt, and_parts, ne_eqb, false≢true}
@@ -45,7 +45,7 @@ names_at from (suc count) ms k h l u =
     go below (inr ne) = below (omega arith) (omega arith)
 
 module _ {X A : Type 0} (P : A → Type 0) (Good : X → Type 0) (f : A → X → A) (make : (a : A) (x : X) → Good x → P (f a x)) where
-  deal_at : (es : List (ℕ × X)) → All (λ e. Good e.1) es → (xs : List A) (k : ℕ) (d : A) → k < length xs
+  deal_at : (es : List (ℕ × X)) → AllByRecursion (λ e. Good e.1) es → (xs : List A) (k : ℕ) (d : A) → k < length xs
       → (P (get_or xs k d)) ⊎ (has k (heads es) ≡ true) → P (get_or (deal f es xs) k d)
   deal_at [] g xs k d l (inl p) = p
   deal_at [] g xs k d l (inr h) = absurd (false≢true h)
@@ -59,8 +59,8 @@ module _ {X A : Type 0} (P : A → Type 0) (Good : X → Type 0) (f : A → X �
       go (inr h) (inr ne) = inr (has_skip k e.0 (heads es) ne h)
 
   -- after a batch of good entries that names every new place
-  pub dealt_all : (old : List A) (new : A) (more : ℕ) (es : List (ℕ × X)) (gs : List ℕ) → heads es ≡ gs → All P old → All (λ e. Good e.1) es
-      → names_from (length old) more gs ≡ true → All P (deal f es (old ++ replicate more new))
+  pub dealt_all : (old : List A) (new : A) (more : ℕ) (es : List (ℕ × X)) (gs : List ℕ) → heads es ≡ gs → AllByRecursion P old → AllByRecursion (λ e. Good e.1) es
+      → names_from (length old) more gs ≡ true → AllByRecursion P (deal f es (old ++ replicate more new))
   dealt_all old new more es gs hs p g named =
       All-from_get_or P _ new (λ k l. deal_at es g (old ++ replicate more new) k new (bound k l) (go k (bound k l) (cases_lt k (length old))))
     where

@@ -1,7 +1,7 @@
 -- What every turn keeps: each accumulator's credits are alike the joins of its bags, and each row handed out is what its entry says.
 use Rattle.std.proofs.Common.{◌≡◌, ℕ, ◌-◌, ◌<◌, ◌≤◌, Bool, true, false, cond, ◌&&◌, ◌||◌, ltb, List, [], ◌∷◌, ◌++◌, map, length, get_or, set, replicate, is_some, Some, None, Option, sym, refl, ap, ◌∙◌, subst, arith}
 use lib.ListN.{get_or-map}
-use Rattle.std.specs.List.{AllByRecursion as All}
+use Rattle.std.specs.List.{AllByRecursion}
 use Rattle.std.proofs.lemmas.Bool.{or_parts, cond-true, true≢false}
 use Rattle.columnar.specs.declared.refusal.Refusal.{Refusal}
 use Rattle.columnar.specs.Cells.{Cell, Ticks, seen, over, cells, passes, nulls}
@@ -30,7 +30,7 @@ module _ {V S O : Type 0} (K : Kind V S O) (L : Laws K) where
 
   -- where there is no mask, no credit is null
   abbrev pub Visible : Bool → List K.Credit → Type 0
-  Visible marked cs = marked ≡ false → All (Clear K) cs
+  Visible marked cs = marked ≡ false → AllByRecursion (Clear K) cs
 
   pub record Fair (m : Means K) (a : Account V) : Type 0 where
     pub alike : Each Credited m.credits (bags_in a)
@@ -54,7 +54,7 @@ module _ {V S O : Type 0} (K : Kind V S O) (L : Laws K) where
 
   -- ── the switch ──
   visible_turned : (d : Switch) → K.switch ≡ d → (before batch : Bool) (cs : List K.Credit)
-      → (K.switch ≡ by_nulls → before ≡ false → batch ≡ false → All (Clear K) cs) → Visible (turned d before batch) cs
+      → (K.switch ≡ by_nulls → before ≡ false → batch ≡ false → AllByRecursion (Clear K) cs) → Visible (turned d before batch) cs
   visible_turned by_nulls e before batch cs h f = let both = or_parts before batch f in h e both.0 both.1
   visible_turned always_marked e before batch cs h f = absurd (true≢false f)
   visible_turned always_plain e before batch cs h f = all_of (Clear K) (L.plain_clear e) cs
@@ -99,7 +99,7 @@ module _ {V S O : Type 0} (K : Kind V S O) (L : Laws K) where
       make d c r g = subst (λ x. Clear K (K.join c (K.of_row x))) (sym g.1) (L.row_clear d c g.0)
 
       go : (filter : Ticks) → Passed (length m.credits) (length rows) gs total → K.switch ≡ by_nulls → m.marked ≡ false → (is_some filter || ltb 0 (nulls rows)) ≡ false
-          → All (Clear K) (with_rows K m (row_entries rows filter gs) total)
+          → AllByRecursion (Clear K) (with_rows K m (row_entries rows filter gs) total)
       go None p d f batch =
           dealt_all (Clear K) Given (λ c r. K.join c (K.of_row r)) (make d) m.credits K.empty (total - length m.credits) (row_entries rows None gs) gs
           (entries_heads rows gs p.rows_match) (h.visible f) (entries_given rows gs batch) p.new_named
@@ -123,7 +123,7 @@ module _ {V S O : Type 0} (K : Kind V S O) (L : Laws K) where
       make : K.switch ≡ by_nulls → (c : K.Credit) (s : Cell S) → s.valid ≡ true → Clear K (K.join c (read K s))
       make d c s g = subst (λ x. Clear K (K.join c x)) (sym (cond-true s.valid (K.of_state s.figure) K.empty g)) (L.state_clear d c s.figure)
 
-      go : Passed (length m.credits) (length rows) gs total → K.switch ≡ by_nulls → m.marked ≡ false → ltb 0 (nulls rows) ≡ false → All (Clear K) (with_states K m (zip gs rows) total)
+      go : Passed (length m.credits) (length rows) gs total → K.switch ≡ by_nulls → m.marked ≡ false → ltb 0 (nulls rows) ≡ false → AllByRecursion (Clear K) (with_states K m (zip gs rows) total)
       go p d f batch =
           dealt_all (Clear K) (λ s. s.valid ≡ true) (λ c s. K.join c (read K s)) (make d) m.credits K.empty (total - length m.credits) (zip gs rows) gs
           (zip_heads rows gs p.rows_match) (h.visible f) (zip_valid rows gs batch) p.new_named
@@ -191,7 +191,7 @@ module _ {V S O : Type 0} (K : Kind V S O) (L : Laws K) where
   row_carries (taker_refused r c) entries n d h l = carried_at (cells c) entries n d h.1 l
   row_carries no_such entries n d h l = absurd (omega arith)
 
-  sent_reads : (past : List (Outcome S O)) (b : Book V) → Each Told past b.entries → (sent : List (Sent S)) → All (Stands K past) sent
+  sent_reads : (past : List (Outcome S O)) (b : Book V) → Each Told past b.entries → (sent : List (Sent S)) → AllByRecursion (Stands K past) sent
       → Each Reads (sent_cells sent) (map (λ s. placed b s.from) sent)
   sent_reads past b h [] e = tt
   sent_reads past b h (s ∷ sent) e =

@@ -17,7 +17,7 @@
 --     RunsHold            it holds of the outcomes of all turns
 use Rattle.std.specs.Prelude.{◌≡◌, ℕ, ◌<◌, true, List, [], ◌∷◌, ◌++◌, map, length, get_or, Some, None, slice_index_or}
 use mathlib.Core.List.{Permᴰ}
-use Rattle.std.specs.List.{AllByRecursion as All}
+use Rattle.std.specs.List.{AllByRecursion}
 use Rattle.columnar.specs.Cells.{Cell, Ticks, cells, over}
 use Rattle.buffers.specs.Memory.{Room}
 use Rattle.groups.specs.Kind.{Kind, read, joined}
@@ -106,7 +106,7 @@ module _ {V S O : Type 0} (K : Kind V S O) where
 
   abbrev pub MergeStands : List (Outcome S O) → Turn V S → Verdict → Type 0
   MergeStands os (update i rows filter groups total) v = Unit {0}
-  MergeStands os (merge i sent groups total) accepted = All (Stands os) sent
+  MergeStands os (merge i sent groups total) accepted = AllByRecursion (Stands os) sent
   MergeStands os (merge i sent groups total) refused_call = Unit {0}
   MergeStands os (merge i sent groups total) refused_by_taker = Unit {0}
   MergeStands os (convert i rows filter room) v = Unit {0}

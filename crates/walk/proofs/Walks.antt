@@ -1,6 +1,6 @@
 -- The walk by row numbers: what is left of the rows, and a loop's step.
 use Rattle.std.proofs.Common.{◌≡◌, ℕ, ◌+◌, ◌<◌, ◌≤◌, Bool, true, false, cond, ◌&&◌, List, [], ◌∷◌, map, length, get_or, drop, Some, None, Option, Bor, Iter, sym, refl, ap, ap₂, ◌∙◌, subst, ⊎_elim, arith}
-use Rattle.std.specs.List.{zip, range_with_len, AllByRecursion as All}
+use Rattle.std.specs.List.{zip, range_with_len, AllByRecursion}
 use Rattle.std.proofs.ByRecursion.{All-get_or}
 use Rattle.std.proofs.lemmas.List.{drop_more, drop_all, drop-drop}
 use Rattle.std.specs.declared.iter.Zip.{Zip}
@@ -21,28 +21,28 @@ use Rattle.walk.specs.Visits.{visits, told_all}
 -- the visits that are left, after m, come to what all of them do after m₀, and if they all fit, then all do
 pub record Walked {V M : Type 0} (after : M → ℕ → V → M) (fit : V → Type 0) (all : List (ℕ × V)) (m₀ m : M) (rest : List (ℕ × V)) : Type 0 where
   pub left : told_all after m rest ≡ told_all after m₀ all
-  pub fits : All (λ (v : ℕ × V). fit v.1) rest → All (λ (v : ℕ × V). fit v.1) all
+  pub fits : AllByRecursion (λ (v : ℕ × V). fit v.1) rest → AllByRecursion (λ (v : ℕ × V). fit v.1) all
 
 module _ {V M : Type 0} {after : M → ℕ → V → M} {fit : V → Type 0} {all rest : List (ℕ × V)} {m₀ m : M} (w : Walked after fit all m₀ m rest) where
   walked_visit : {rest' : List (ℕ × V)} {g : ℕ} {x : V} {m' : M} → rest ≡ (g, x) ∷ rest' → m' ≡ after m g x → fit x → Walked after fit all m₀ m' rest'
   walked_visit {rest'} {g} {x} next told fits = record {
     left = ap (λ s. told_all after s rest') told ∙ ap (told_all after m) (sym next) ∙ w.left;
-    fits = λ h. w.fits (subst (All (λ (v : ℕ × V). fit v.1)) (sym next) (fits, h));
+    fits = λ h. w.fits (subst (AllByRecursion (λ (v : ℕ × V). fit v.1)) (sym next) (fits, h));
   }
 
   walked_skip : {rest' : List (ℕ × V)} {m' : M} → rest ≡ rest' → m' ≡ m → Walked after fit all m₀ m' rest'
   walked_skip {rest'} next same = record {
     left = ap (λ s. told_all after s rest') same ∙ ap (told_all after m) (sym next) ∙ w.left;
-    fits = λ h. w.fits (subst (All (λ (v : ℕ × V). fit v.1)) (sym next) h);
+    fits = λ h. w.fits (subst (AllByRecursion (λ (v : ℕ × V). fit v.1)) (sym next) h);
   }
 
   walked_told : {vs : List (ℕ × V)} → rest ≡ [] → vs ≡ all → m ≡ told_all after m₀ vs
   walked_told end is = ap (told_all after m) (sym end) ∙ w.left ∙ ap (told_all after m₀) (sym is)
 
-  walked_fits : {vs : List (ℕ × V)} → rest ≡ [] → vs ≡ all → All (λ (v : ℕ × V). fit v.1) vs
+  walked_fits : {vs : List (ℕ × V)} → rest ≡ [] → vs ≡ all → AllByRecursion (λ (v : ℕ × V). fit v.1) vs
   walked_fits end is =
-      let none : All (λ (v : ℕ × V). fit v.1) [] = tt in
-      subst (All (λ (v : ℕ × V). fit v.1)) (sym is) (w.fits (subst (All (λ (v : ℕ × V). fit v.1)) (sym end) none))
+      let none : AllByRecursion (λ (v : ℕ × V). fit v.1) [] = tt in
+      subst (AllByRecursion (λ (v : ℕ × V). fit v.1)) (sym is) (w.fits (subst (AllByRecursion (λ (v : ℕ × V). fit v.1)) (sym end) none))
 
 -- ---- a loop over row numbers: p says which rows are valid, and q which are let through
 
@@ -104,7 +104,7 @@ module _ {V M : Type 0} {after : M → ℕ → V → M} {fit : V → Type 0} {p 
     pub rows_told : {ps : List Bool} → ps ≡ map q (range_with_len 0 (length gs)) → m ≡ told_all after m₀ (visits gs (cells_from p 0 xs) ps)
     rows_told is = walked_told w.walked rows_end (ap (visits gs (cells_from p 0 xs)) is ∙ visits_from p q 0 gs xs)
 
-    pub rows_fits : {ps : List Bool} → ps ≡ map q (range_with_len 0 (length gs)) → All (λ (v : ℕ × V). fit v.1) (visits gs (cells_from p 0 xs) ps)
+    pub rows_fits : {ps : List Bool} → ps ≡ map q (range_with_len 0 (length gs)) → AllByRecursion (λ (v : ℕ × V). fit v.1) (visits gs (cells_from p 0 xs) ps)
     rows_fits is = walked_fits w.walked rows_end (ap (visits gs (cells_from p 0 xs)) is ∙ visits_from p q 0 gs xs)
 
 -- the same where the values are packed bits
@@ -112,7 +112,7 @@ pub bits_visit : {M : Type 0} {after : M → ℕ → Bool → M} {fit : Bool →
 bits_visit {gs = gs} bits first {i = i} {b = b} w h read valid passes told fits =
     rows_visit w h (sym (length_unpacked bits first (length gs))) (unpacked_read bits first (length gs) i b b h read) valid passes told fits
 
-pub named_below : (n : ℕ) (gs : List ℕ) (i : ℕ) → All (λ k. k < n) gs → i < length gs → get_or gs i 0 < n
+pub named_below : (n : ℕ) (gs : List ℕ) (i : ℕ) → AllByRecursion (λ k. k < n) gs → i < length gs → get_or gs i 0 < n
 named_below n gs i all h = All-get_or (λ k. k < n) gs i 0 h all
 
 pub groups_same : {X : Type 0} {a b : ℕ × X} → a ≡ b → a.0 ≡ b.0
@@ -140,10 +140,10 @@ module _ {A B : Type 0} (s t : Zip (Iter A) (Iter B)) (r : Option (Bor A × Bor 
       (either_empty_from_Zip s t r is steps)
 
 pub record WalkedPairs {V M : Type 0} (after : M → ℕ → V → M) (fit : V → Type 0) (n : ℕ) (all : List (ℕ × V)) (m₀ m : M) (rest : List (ℕ × V)) : Type 0 where
-  below : All (λ (y : ℕ × V). y.0 < n) rest
+  below : AllByRecursion (λ (y : ℕ × V). y.0 < n) rest
   walked : Walked after fit all m₀ m rest
 
-zipped_below : {V : Type 0} (n : ℕ) (gs : List ℕ) (xs : List V) → All (λ k. k < n) gs → All (λ (y : ℕ × V). y.0 < n) (zip gs xs)
+zipped_below : {V : Type 0} (n : ℕ) (gs : List ℕ) (xs : List V) → AllByRecursion (λ k. k < n) gs → AllByRecursion (λ (y : ℕ × V). y.0 < n) (zip gs xs)
 zipped_below n [] xs h = tt
 zipped_below n (g ∷ gs) [] h = tt
 zipped_below n (g ∷ gs) (x ∷ xs) h = (h.0, zipped_below n gs xs h.1)
@@ -154,14 +154,14 @@ visits_all i (g ∷ gs) [] = refl
 visits_all i (g ∷ gs) (x ∷ xs) = ap (λ r. (g, x) ∷ r) (visits_all (i + 1) gs xs)
 
 module _ {V M : Type 0} {after : M → ℕ → V → M} {fit : V → Type 0} {n : ℕ} {m₀ : M} where
-  pub pairs_none : (gs : List ℕ) (xs : List V) (rest : List (ℕ × V)) → All (λ k. k < n) gs → rest ≡ zip gs xs → WalkedPairs after fit n (zip gs xs) m₀ m₀ rest
+  pub pairs_none : (gs : List ℕ) (xs : List V) (rest : List (ℕ × V)) → AllByRecursion (λ k. k < n) gs → rest ≡ zip gs xs → WalkedPairs after fit n (zip gs xs) m₀ m₀ rest
   pairs_none gs xs rest h e = record {
     below = rw e (zipped_below n gs xs h);
-    walked = record { left = ap (told_all after m₀) e; fits = subst (All (λ (v : ℕ × V). fit v.1)) e };
+    walked = record { left = ap (told_all after m₀) e; fits = subst (AllByRecursion (λ (v : ℕ × V). fit v.1)) e };
   }
 
   module _ {all rest rest' : List (ℕ × V)} {m : M} {g : ℕ} {x : V} (w : WalkedPairs after fit n all m₀ m rest) (next : rest ≡ (g, x) ∷ rest') where
-    first_below : All (λ (y : ℕ × V). y.0 < n) ((g, x) ∷ rest')
+    first_below : AllByRecursion (λ (y : ℕ × V). y.0 < n) ((g, x) ∷ rest')
     first_below = rw next at w.below
 
     pub pairs_below : g < n
@@ -174,5 +174,5 @@ module _ {V M : Type 0} {after : M → ℕ → V → M} {fit : V → Type 0} {n 
     pub pairs_told : m ≡ told_all after m₀ (visits gs (cells_from (λ (j : ℕ). true) 0 xs) (all_pass (length gs)))
     pairs_told = walked_told w.walked end (visits_all 0 gs xs)
 
-    pub pairs_fits : All (λ (v : ℕ × V). fit v.1) (visits gs (cells_from (λ (j : ℕ). true) 0 xs) (all_pass (length gs)))
+    pub pairs_fits : AllByRecursion (λ (v : ℕ × V). fit v.1) (visits gs (cells_from (λ (j : ℕ). true) 0 xs) (all_pass (length gs)))
     pairs_fits = walked_fits w.walked end (visits_all 0 gs xs)

@@ -1,6 +1,6 @@
 ghost use Rattle.std.specs.Prelude.{◌≡◌, ℕ, ◌+◌, ◌*◌, ◌<◌, ◌≤◌, List, length, IfSome, Some, None};
 ghost use Rattle.std.specs.Option.{option_map};
-ghost use Rattle.std.specs.List.{AllByRecursion as All};
+ghost use Rattle.std.specs.List.{AllByRecursion};
 ghost use Rattle.columnar.specs.Cells.{passes as let_through};
 ghost use Rattle.columnar.specs.Rows.{column_cells, boolean_cells, ticks_of, Within};
 ghost use Rattle.columnar.specs.Views.{ticks};
@@ -33,11 +33,11 @@ pub trait Visitor<T> {
 }
 
 fn walk_all<T: Copy, V: Visitor<T>>(groups: &[usize], values: &[T], visitor: &mut V)
-    requires named { All (λ k. k < (V.Visitor.fixed visitor.old).0) groups.now }
+    requires named { AllByRecursion (λ k. k < (V.Visitor.fixed visitor.old).0) groups.now }
     requires even { length groups.now ≡ length values.now }
     ensures told { V.Visitor.model visitor.new ≡ told_all V.Visitor.after (V.Visitor.model visitor.old) (visits groups.now (column_cells None 0 values.now) (let_through None (length groups.now))) }
     ensures same { V.Visitor.fixed visitor.new ≡ V.Visitor.fixed visitor.old }
-    ensures fits { All (λ v. V.Visitor.fit v.1) (visits groups.now (column_cells None 0 values.now) (let_through None (length groups.now))) }
+    ensures fits { AllByRecursion (λ v. V.Visitor.fit v.1) (visits groups.now (column_cells None 0 values.now) (let_through None (length groups.now))) }
 {
     for (group, value) in groups.iter().zip(values.iter()) {
         visitor.visit(*group, *value);
@@ -51,12 +51,12 @@ fn walk_valid<T: Copy, V: Visitor<T>>(
     start: usize,
     visitor: &mut V,
 )
-    requires named { All (λ k. k < (V.Visitor.fixed visitor.old).0) groups.now }
+    requires named { AllByRecursion (λ k. k < (V.Visitor.fixed visitor.old).0) groups.now }
     requires even { length groups.now ≡ length values.now }
     requires rows { Within (option_map (λ x. x.now) mask) start (length groups.now) }
     ensures told { V.Visitor.model visitor.new ≡ told_all V.Visitor.after (V.Visitor.model visitor.old) (visits groups.now (column_cells (option_map (λ x. x.now) mask.entry) start values.now) (let_through None (length groups.now))) }
     ensures same { V.Visitor.fixed visitor.new ≡ V.Visitor.fixed visitor.old }
-    ensures fits { All (λ v. V.Visitor.fit v.1) (visits groups.now (column_cells (option_map (λ x. x.now) mask.entry) start values.now) (let_through None (length groups.now))) }
+    ensures fits { AllByRecursion (λ v. V.Visitor.fit v.1) (visits groups.now (column_cells (option_map (λ x. x.now) mask.entry) start values.now) (let_through None (length groups.now))) }
 {
     for (j, group) in groups.iter().enumerate() {
         if valid(mask, start, j) {
@@ -74,13 +74,13 @@ fn walk_passed<T: Copy, V: Visitor<T>>(
     from: usize,
     visitor: &mut V,
 )
-    requires named { All (λ k. k < (V.Visitor.fixed visitor.old).0) groups.now }
+    requires named { AllByRecursion (λ k. k < (V.Visitor.fixed visitor.old).0) groups.now }
     requires even { length groups.now ≡ length values.now }
     requires yes { at + length groups.now ≤ 8 * length yes.now }
     requires known { Within (option_map (λ x. x.now) known) from (length groups.now) }
     ensures told { V.Visitor.model visitor.new ≡ told_all V.Visitor.after (V.Visitor.model visitor.old) (visits groups.now (column_cells None 0 values.now) (let_through (ticks_of (Some yes.now) at (option_map (λ x. x.now) known.entry) from (length groups.now)) (length groups.now))) }
     ensures same { V.Visitor.fixed visitor.new ≡ V.Visitor.fixed visitor.old }
-    ensures fits { All (λ v. V.Visitor.fit v.1) (visits groups.now (column_cells None 0 values.now) (let_through (ticks_of (Some yes.now) at (option_map (λ x. x.now) known.entry) from (length groups.now)) (length groups.now))) }
+    ensures fits { AllByRecursion (λ v. V.Visitor.fit v.1) (visits groups.now (column_cells None 0 values.now) (let_through (ticks_of (Some yes.now) at (option_map (λ x. x.now) known.entry) from (length groups.now)) (length groups.now))) }
 {
     for (j, group) in groups.iter().enumerate() {
         if passes(yes, at, known, from, j) {
@@ -100,14 +100,14 @@ fn walk_both<T: Copy, V: Visitor<T>>(
     from: usize,
     visitor: &mut V,
 )
-    requires named { All (λ k. k < (V.Visitor.fixed visitor.old).0) groups.now }
+    requires named { AllByRecursion (λ k. k < (V.Visitor.fixed visitor.old).0) groups.now }
     requires even { length groups.now ≡ length values.now }
     requires rows { Within (option_map (λ x. x.now) mask) start (length groups.now) }
     requires yes { at + length groups.now ≤ 8 * length yes.now }
     requires known { Within (option_map (λ x. x.now) known) from (length groups.now) }
     ensures told { V.Visitor.model visitor.new ≡ told_all V.Visitor.after (V.Visitor.model visitor.old) (visits groups.now (column_cells (option_map (λ x. x.now) mask.entry) start values.now) (let_through (ticks_of (Some yes.now) at (option_map (λ x. x.now) known.entry) from (length groups.now)) (length groups.now))) }
     ensures same { V.Visitor.fixed visitor.new ≡ V.Visitor.fixed visitor.old }
-    ensures fits { All (λ v. V.Visitor.fit v.1) (visits groups.now (column_cells (option_map (λ x. x.now) mask.entry) start values.now) (let_through (ticks_of (Some yes.now) at (option_map (λ x. x.now) known.entry) from (length groups.now)) (length groups.now))) }
+    ensures fits { AllByRecursion (λ v. V.Visitor.fit v.1) (visits groups.now (column_cells (option_map (λ x. x.now) mask.entry) start values.now) (let_through (ticks_of (Some yes.now) at (option_map (λ x. x.now) known.entry) from (length groups.now)) (length groups.now))) }
 {
     for (j, group) in groups.iter().enumerate() {
         if valid(mask, start, j) && passes(yes, at, known, from, j) {
@@ -124,11 +124,11 @@ pub fn accumulate<T: Copy, V: Visitor<T>>(
     visitor: &mut V,
 )
     requires even { length group_indices.now ≡ length (column_cells (option_map (λ x. x.now) values.now.mask) values.now.start values.now.values.now) }
-    requires named { All (λ k. k < (V.Visitor.fixed visitor.old).0) group_indices.now }
+    requires named { AllByRecursion (λ k. k < (V.Visitor.fixed visitor.old).0) group_indices.now }
     requires ticked { IfSome (ticks opt_filter.now) (λ ts. length ts ≡ length group_indices.now) }
     ensures told { V.Visitor.model visitor.new ≡ told_all V.Visitor.after (V.Visitor.model visitor.old) (visits group_indices.now (column_cells (option_map (λ x. x.now) values.now.mask) values.now.start values.now.values.now) (let_through (ticks opt_filter.now) (length group_indices.now))) }
     ensures same { V.Visitor.fixed visitor.new ≡ V.Visitor.fixed visitor.old }
-    ensures fits { All (λ v. V.Visitor.fit v.1) (visits group_indices.now (column_cells (option_map (λ x. x.now) values.now.mask) values.now.start values.now.values.now) (let_through (ticks opt_filter.now) (length group_indices.now))) }
+    ensures fits { AllByRecursion (λ v. V.Visitor.fit v.1) (visits group_indices.now (column_cells (option_map (λ x. x.now) values.now.mask) values.now.start values.now.values.now) (let_through (ticks opt_filter.now) (length group_indices.now))) }
 {
     let data = values.values;
     let mask = values.mask;
@@ -155,11 +155,11 @@ pub fn accumulate<T: Copy, V: Visitor<T>>(
 }
 
 fn walk_bits_all<V: Visitor<bool>>(groups: &[usize], bits: &[u8], first: usize, visitor: &mut V)
-    requires named { All (λ k. k < (V.Visitor.fixed visitor.old).0) groups.now }
+    requires named { AllByRecursion (λ k. k < (V.Visitor.fixed visitor.old).0) groups.now }
     requires bits { first + length groups.now ≤ 8 * length bits.now }
     ensures told { V.Visitor.model visitor.new ≡ told_all V.Visitor.after (V.Visitor.model visitor.old) (visits groups.now (boolean_cells bits.now first None 0 (length groups.now)) (let_through None (length groups.now))) }
     ensures same { V.Visitor.fixed visitor.new ≡ V.Visitor.fixed visitor.old }
-    ensures fits { All (λ v. V.Visitor.fit v.1) (visits groups.now (boolean_cells bits.now first None 0 (length groups.now)) (let_through None (length groups.now))) }
+    ensures fits { AllByRecursion (λ v. V.Visitor.fit v.1) (visits groups.now (boolean_cells bits.now first None 0 (length groups.now)) (let_through None (length groups.now))) }
 {
     for (j, group) in groups.iter().enumerate() {
         visitor.visit(*group, bit(bits, first, j));
@@ -174,12 +174,12 @@ fn walk_bits_valid<V: Visitor<bool>>(
     start: usize,
     visitor: &mut V,
 )
-    requires named { All (λ k. k < (V.Visitor.fixed visitor.old).0) groups.now }
+    requires named { AllByRecursion (λ k. k < (V.Visitor.fixed visitor.old).0) groups.now }
     requires bits { first + length groups.now ≤ 8 * length bits.now }
     requires rows { Within (option_map (λ x. x.now) mask) start (length groups.now) }
     ensures told { V.Visitor.model visitor.new ≡ told_all V.Visitor.after (V.Visitor.model visitor.old) (visits groups.now (boolean_cells bits.now first (option_map (λ x. x.now) mask.entry) start (length groups.now)) (let_through None (length groups.now))) }
     ensures same { V.Visitor.fixed visitor.new ≡ V.Visitor.fixed visitor.old }
-    ensures fits { All (λ v. V.Visitor.fit v.1) (visits groups.now (boolean_cells bits.now first (option_map (λ x. x.now) mask.entry) start (length groups.now)) (let_through None (length groups.now))) }
+    ensures fits { AllByRecursion (λ v. V.Visitor.fit v.1) (visits groups.now (boolean_cells bits.now first (option_map (λ x. x.now) mask.entry) start (length groups.now)) (let_through None (length groups.now))) }
 {
     for (j, group) in groups.iter().enumerate() {
         if valid(mask, start, j) {
@@ -198,13 +198,13 @@ fn walk_bits_passed<V: Visitor<bool>>(
     from: usize,
     visitor: &mut V,
 )
-    requires named { All (λ k. k < (V.Visitor.fixed visitor.old).0) groups.now }
+    requires named { AllByRecursion (λ k. k < (V.Visitor.fixed visitor.old).0) groups.now }
     requires bits { first + length groups.now ≤ 8 * length bits.now }
     requires yes { at + length groups.now ≤ 8 * length yes.now }
     requires known { Within (option_map (λ x. x.now) known) from (length groups.now) }
     ensures told { V.Visitor.model visitor.new ≡ told_all V.Visitor.after (V.Visitor.model visitor.old) (visits groups.now (boolean_cells bits.now first None 0 (length groups.now)) (let_through (ticks_of (Some yes.now) at (option_map (λ x. x.now) known.entry) from (length groups.now)) (length groups.now))) }
     ensures same { V.Visitor.fixed visitor.new ≡ V.Visitor.fixed visitor.old }
-    ensures fits { All (λ v. V.Visitor.fit v.1) (visits groups.now (boolean_cells bits.now first None 0 (length groups.now)) (let_through (ticks_of (Some yes.now) at (option_map (λ x. x.now) known.entry) from (length groups.now)) (length groups.now))) }
+    ensures fits { AllByRecursion (λ v. V.Visitor.fit v.1) (visits groups.now (boolean_cells bits.now first None 0 (length groups.now)) (let_through (ticks_of (Some yes.now) at (option_map (λ x. x.now) known.entry) from (length groups.now)) (length groups.now))) }
 {
     for (j, group) in groups.iter().enumerate() {
         if passes(yes, at, known, from, j) {
@@ -225,14 +225,14 @@ fn walk_bits_both<V: Visitor<bool>>(
     from: usize,
     visitor: &mut V,
 )
-    requires named { All (λ k. k < (V.Visitor.fixed visitor.old).0) groups.now }
+    requires named { AllByRecursion (λ k. k < (V.Visitor.fixed visitor.old).0) groups.now }
     requires bits { first + length groups.now ≤ 8 * length bits.now }
     requires rows { Within (option_map (λ x. x.now) mask) start (length groups.now) }
     requires yes { at + length groups.now ≤ 8 * length yes.now }
     requires known { Within (option_map (λ x. x.now) known) from (length groups.now) }
     ensures told { V.Visitor.model visitor.new ≡ told_all V.Visitor.after (V.Visitor.model visitor.old) (visits groups.now (boolean_cells bits.now first (option_map (λ x. x.now) mask.entry) start (length groups.now)) (let_through (ticks_of (Some yes.now) at (option_map (λ x. x.now) known.entry) from (length groups.now)) (length groups.now))) }
     ensures same { V.Visitor.fixed visitor.new ≡ V.Visitor.fixed visitor.old }
-    ensures fits { All (λ v. V.Visitor.fit v.1) (visits groups.now (boolean_cells bits.now first (option_map (λ x. x.now) mask.entry) start (length groups.now)) (let_through (ticks_of (Some yes.now) at (option_map (λ x. x.now) known.entry) from (length groups.now)) (length groups.now))) }
+    ensures fits { AllByRecursion (λ v. V.Visitor.fit v.1) (visits groups.now (boolean_cells bits.now first (option_map (λ x. x.now) mask.entry) start (length groups.now)) (let_through (ticks_of (Some yes.now) at (option_map (λ x. x.now) known.entry) from (length groups.now)) (length groups.now))) }
 {
     for (j, group) in groups.iter().enumerate() {
         if valid(mask, start, j) && passes(yes, at, known, from, j) {
@@ -249,11 +249,11 @@ pub fn accumulate_boolean<V: Visitor<bool>>(
     visitor: &mut V,
 )
     requires even { length group_indices.now ≡ length (boolean_cells values.now.bytes.now values.now.start (option_map (λ x. x.now) values.now.mask) values.now.from values.now.len) }
-    requires named { All (λ k. k < (V.Visitor.fixed visitor.old).0) group_indices.now }
+    requires named { AllByRecursion (λ k. k < (V.Visitor.fixed visitor.old).0) group_indices.now }
     requires ticked { IfSome (ticks opt_filter.now) (λ ts. length ts ≡ length group_indices.now) }
     ensures told { V.Visitor.model visitor.new ≡ told_all V.Visitor.after (V.Visitor.model visitor.old) (visits group_indices.now (boolean_cells values.now.bytes.now values.now.start (option_map (λ x. x.now) values.now.mask) values.now.from values.now.len) (let_through (ticks opt_filter.now) (length group_indices.now))) }
     ensures same { V.Visitor.fixed visitor.new ≡ V.Visitor.fixed visitor.old }
-    ensures fits { All (λ v. V.Visitor.fit v.1) (visits group_indices.now (boolean_cells values.now.bytes.now values.now.start (option_map (λ x. x.now) values.now.mask) values.now.from values.now.len) (let_through (ticks opt_filter.now) (length group_indices.now))) }
+    ensures fits { AllByRecursion (λ v. V.Visitor.fit v.1) (visits group_indices.now (boolean_cells values.now.bytes.now values.now.start (option_map (λ x. x.now) values.now.mask) values.now.from values.now.len) (let_through (ticks opt_filter.now) (length group_indices.now))) }
 {
     let bits = values.bytes;
     let first = values.start;

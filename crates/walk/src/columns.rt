@@ -1,5 +1,5 @@
 ghost use Rattle.std.specs.Prelude.{◌≡◌, ℕ, ◌<◌, List, length, IfSome};
-ghost use Rattle.std.specs.List.{AllByRecursion as All};
+ghost use Rattle.std.specs.List.{AllByRecursion};
 ghost use Rattle.columnar.specs.Cells.{passes as let_through};
 ghost use Rattle.columnar.specs.Views.{ticks};
 ghost use Rattle.walk.specs.Visits.{visits, told_all};
@@ -20,11 +20,11 @@ pub trait Accumulate<X>: Rows<X> {
         visitor: &mut V,
     )
         requires even { length group_indices.now ≡ length (Self.Rows.cells self.now) }
-        requires named { All (λ k. k < (V.Visitor.fixed visitor.old).0) group_indices.now }
+        requires named { AllByRecursion (λ k. k < (V.Visitor.fixed visitor.old).0) group_indices.now }
         requires ticked { IfSome (ticks opt_filter.now) (λ ts. length ts ≡ length group_indices.now) }
         ensures told { V.Visitor.model visitor.new ≡ told_all V.Visitor.after (V.Visitor.model visitor.old) (visits group_indices.now (Self.Rows.cells self.now) (let_through (ticks opt_filter.now) (length group_indices.now))) }
         ensures same { V.Visitor.fixed visitor.new ≡ V.Visitor.fixed visitor.old }
-        ensures fits { All (λ v. V.Visitor.fit v.1) (visits group_indices.now (Self.Rows.cells self.now) (let_through (ticks opt_filter.now) (length group_indices.now))) };
+        ensures fits { AllByRecursion (λ v. V.Visitor.fit v.1) (visits group_indices.now (Self.Rows.cells self.now) (let_through (ticks opt_filter.now) (length group_indices.now))) };
 }
 
 impl<'a, T: Copy> Accumulate<T> for PrimitiveColumn<'a, T> {

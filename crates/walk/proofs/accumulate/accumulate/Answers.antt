@@ -1,6 +1,6 @@
 use Rattle.std.proofs.Common.{ℕ, length, sym, refl, ap, ◌∙◌, subst}
 use Rattle.std.specs.Option.{option_map}
-use Rattle.std.specs.List.{AllByRecursion as All}
+use Rattle.std.specs.List.{AllByRecursion}
 use Rattle.columnar.proofs.CellRows.{length_cells_from}
 use Rattle.walk.specs.Visits.{told_all}
 use Rattle.walk.proofs.Plain.{plain_cells, same_visits}
@@ -44,7 +44,7 @@ returns-in_default-None g c =
     record {
       told = c.walk_all.ensures.told ∙ ap (told_all v.after (v.model c.args.visitor.now)) same;
       same = c.walk_all.ensures.same;
-      fits = subst (All (λ (y : ℕ × g.row.T.Denot). v.fit y.1)) same c.walk_all.ensures.fits;
+      fits = subst (AllByRecursion (λ (y : ℕ × g.row.T.Denot). v.fit y.1)) same c.walk_all.ensures.fits;
     }
 
 pub returns-in_default-None-2 : goal.returns-in_default-None-2
@@ -56,7 +56,7 @@ returns-in_default-None-2 g c =
     record {
       told = c.walk_valid.ensures.told ∙ ap (told_all v.after (v.model c.args.visitor.now)) same;
       same = c.walk_valid.ensures.same;
-      fits = subst (All (λ (y : ℕ × g.row.T.Denot). v.fit y.1)) same c.walk_valid.ensures.fits;
+      fits = subst (AllByRecursion (λ (y : ℕ × g.row.T.Denot). v.fit y.1)) same c.walk_valid.ensures.fits;
     }
 
 pub returns-in_default-Some : goal.returns-in_default-Some
@@ -71,7 +71,7 @@ returns-in_default-Some g c =
     record {
       told = c.walk_passed.ensures.told ∙ ap (told_all v.after (v.model c.args.visitor.now)) same;
       same = c.walk_passed.ensures.same;
-      fits = subst (All (λ (y : ℕ × g.row.T.Denot). v.fit y.1)) same c.walk_passed.ensures.fits;
+      fits = subst (AllByRecursion (λ (y : ℕ × g.row.T.Denot). v.fit y.1)) same c.walk_passed.ensures.fits;
     }
 
 pub returns-in_default-Some-2 : goal.returns-in_default-Some-2
@@ -85,5 +85,5 @@ returns-in_default-Some-2 g c =
     record {
       told = c.walk_both.ensures.told ∙ ap (told_all v.after (v.model c.args.visitor.now)) same;
       same = c.walk_both.ensures.same;
-      fits = subst (All (λ (y : ℕ × g.row.T.Denot). v.fit y.1)) same c.walk_both.ensures.fits;
+      fits = subst (AllByRecursion (λ (y : ℕ × g.row.T.Denot). v.fit y.1)) same c.walk_both.ensures.fits;
     }

@@ -1,6 +1,6 @@
 use Rattle.std.proofs.Common.{ℕ, Bool, length, sym, refl, ap, ◌∙◌, subst, arith}
 use Rattle.std.specs.Option.{option_map}
-use Rattle.std.specs.List.{AllByRecursion as All}
+use Rattle.std.specs.List.{AllByRecursion}
 use Rattle.columnar.specs.Rows.{boolean_cells}
 use Rattle.columnar.proofs.CellRows.{length_booleans}
 use Rattle.walk.specs.Visits.{told_all}
@@ -49,7 +49,7 @@ returns-in_default-None g c =
     record {
       told = c.walk_bits_all.ensures.told ∙ ap (told_all v.after (v.model c.args.visitor.now)) same;
       same = c.walk_bits_all.ensures.same;
-      fits = subst (All (λ (y : ℕ × Bool). v.fit y.1)) same c.walk_bits_all.ensures.fits;
+      fits = subst (AllByRecursion (λ (y : ℕ × Bool). v.fit y.1)) same c.walk_bits_all.ensures.fits;
     }
 
 pub returns-in_default-None-2 : goal.returns-in_default-None-2
@@ -63,7 +63,7 @@ returns-in_default-None-2 g c =
     record {
       told = c.walk_bits_valid.ensures.told ∙ ap (told_all v.after (v.model c.args.visitor.now)) same;
       same = c.walk_bits_valid.ensures.same;
-      fits = subst (All (λ (y : ℕ × Bool). v.fit y.1)) same c.walk_bits_valid.ensures.fits;
+      fits = subst (AllByRecursion (λ (y : ℕ × Bool). v.fit y.1)) same c.walk_bits_valid.ensures.fits;
     }
 
 pub returns-in_default-Some : goal.returns-in_default-Some
@@ -79,7 +79,7 @@ returns-in_default-Some g c =
     record {
       told = c.walk_bits_passed.ensures.told ∙ ap (told_all v.after (v.model c.args.visitor.now)) same;
       same = c.walk_bits_passed.ensures.same;
-      fits = subst (All (λ (y : ℕ × Bool). v.fit y.1)) same c.walk_bits_passed.ensures.fits;
+      fits = subst (AllByRecursion (λ (y : ℕ × Bool). v.fit y.1)) same c.walk_bits_passed.ensures.fits;
     }
 
 pub returns-in_default-Some-2 : goal.returns-in_default-Some-2
@@ -95,5 +95,5 @@ returns-in_default-Some-2 g c =
     record {
       told = c.walk_bits_both.ensures.told ∙ ap (told_all v.after (v.model c.args.visitor.now)) same;
       same = c.walk_bits_both.ensures.same;
-      fits = subst (All (λ (y : ℕ × Bool). v.fit y.1)) same c.walk_bits_both.ensures.fits;
+      fits = subst (AllByRecursion (λ (y : ℕ × Bool). v.fit y.1)) same c.walk_bits_both.ensures.fits;
     }
