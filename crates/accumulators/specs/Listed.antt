@@ -1,10 +1,10 @@
 -- A credit joined with listed rows of a column.
 --
---     seen_at cells j           what is seen of row j: a value or null
---     read_at K cells j         the credit of state row j: a null one is the empty credit
---     after_rows K cells c js  the credit c joined with the credits of the listed rows, in the order of the list; repeats count
---     after_states K cells c js   the same with state rows
---     Within cells js          every listed row is within the column
+--     seen_at cells j            what is seen of row j: a value or null
+--     read_at K cells j          the credit of state row j: a null one is the empty credit
+--     after_rows K cells c js    the credit c joined with the credits of the listed rows, in the order of the list; repeats count
+--     after_states K cells c js  the same with state rows
+--     Within cells js            every listed row is within the column
 use Rattle.std.specs.Prelude.{ℕ, ◌<◌, List, length, fold, Option}
 use Rattle.std.specs.List.{slice_get, AllByRecursion}
 use Rattle.std.specs.Option.{option_map, unwrap_or, option_flatten}

@@ -1,11 +1,11 @@
 -- The number of null rows, counted up to a most.
 --
---     most                       2 ^ 64 - 1
---     Count                      a number that is not above the most
---     capped n                   a number, or the most where it is above that
---     counted a b                the sum of two counts, capped
---     null_count_kind            the kind
---     null_count_laws, null_counts_commute   its laws
+--     most                                  2 ^ 64 - 1
+--     Count                                 a number that is not above the most
+--     capped n                              a number, or the most where it is above that
+--     counted a b                           the sum of two counts, capped
+--     null_count_kind                       the kind
+--     null_count_laws, null_counts_commute  its laws
 use Rattle.std.specs.Prelude.{◌≡◌, ℕ, ◌+◌, ◌-◌, ◌^◌, ◌≤◌, min, ℤ, Some, None, Option, refl}
 use Rattle.std.proofs.Common.{sym, ap, ap₂, ◌∙◌, arith}
 use mathlib.Core.HLevel.{is_prop→PathP}

@@ -1,13 +1,13 @@
 -- What the accumulators show of rows, in terms of the values and nulls among them alone.
 --
---     values rs        the values among rows, in order
---     Shows P vs o     null where there are no values, else a figure that P says of them
---     Farthest vs d    two of the values are d apart, and no two are further apart
---     Least vs m       a value among them that none is below; Greatest, one that none is above
---     null_rows rs      how many rows are null
---     ShowsSpan, WritesSpan   what a span shows, and its state row
---     ShowsNulls      what a count of nulls shows, which is its state row too
---     ListedRows      whatever the kind, listed rows joined one after another are alike the rows' join
+--     values rs              the values among rows, in order
+--     Shows P vs o           null where there are no values, else a figure that P says of them
+--     Farthest vs d          two of the values are d apart, and no two are further apart
+--     Least vs m             a value among them that none is below; Greatest, one that none is above
+--     null_rows rs           how many rows are null
+--     ShowsSpan, WritesSpan  what a span shows, and its state row
+--     ShowsNulls             what a count of nulls shows, which is its state row too
+--     ListedRows             whatever the kind, listed rows joined one after another are alike the rows' join
 use Rattle.std.specs.Prelude.{◌≡◌, ℕ, ◌-◌, ◌^◌, min, not, List, [], ◌∷◌, map, ℤ, pos, ◌+ℤ◌, ◌≤ℤ◌, is_some, Some, None, count_by, Option}
 use Rattle.std.specs.List.{ContainsAt as Has, AllByRecursion}
 use Rattle.columnar.specs.Cells.{Cell}

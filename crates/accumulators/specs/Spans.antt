@@ -1,15 +1,15 @@
 -- The span: the least and the greatest of the values, shown as their difference.
 --
---     Ends              two numbers in order
---     sorted a b        two numbers put in order
---     ends_of r          what a record means, whichever of its numbers is the greater
---     hulled a b          the least and the greatest of both
---     spread e           the greatest minus the least
---     recorded e        the ends as a record
---     span_kind         the kind: no value, or the ends
---     span_laws, span_commutes   its laws; they stand here since the accumulator hands them out with the kind
---     span_of o          what an accumulator holds, as a credit
---     order_refusal     what is refused of the making of a record
+--     Ends                      two numbers in order
+--     sorted a b                two numbers put in order
+--     ends_of r                 what a record means, whichever of its numbers is the greater
+--     hulled a b                the least and the greatest of both
+--     spread e                  the greatest minus the least
+--     recorded e                the ends as a record
+--     span_kind                 the kind: no value, or the ends
+--     span_laws, span_commutes  its laws; they stand here since the accumulator hands them out with the kind
+--     span_of o                 what an accumulator holds, as a credit
+--     order_refusal             what is refused of the making of a record
 use Rattle.std.specs.Prelude.{◌≡◌, ℕ, cond, ℤ, pos, ◌-ℤ◌, ◌≤ℤ◌, Some, None, Option, int_le, int_lt, unsigned_abs, refl}
 use Rattle.std.proofs.Common.{sym, ap, ap₂, ◌∙◌, arith}
 use mathlib.Core.HLevel.{is_prop→PathP}

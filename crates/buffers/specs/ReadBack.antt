@@ -1,11 +1,11 @@
 -- What is written reads back.
 --
 --     PackedReadsBack bits   packed bits unpack to themselves; they take one byte for each eight begun, each below
---                              256, with zeros after the last bit
---     MaskFits mask n          a mask, if there is one, is of n rows
+--                            256, with zeros after the last bit
+--     MaskFits mask n        a mask, if there is one, is of n rows
 --     WrittenReadsBack X     the first of all bits; and of columns of values and of booleans: whatever lay in the
---                              buffers, the column that is laid down is the column held, and the one that can be
---                              read
+--                            buffers, the column that is laid down is the column held, and the one that can be
+--                            read
 use Rattle.std.specs.Prelude.{◌≡◌, ℕ, ◌<◌, ◌≤◌, Bool, false, List, length, Some, None, Option, slice_index}
 use Rattle.columnar.specs.Packed.{bit_at, unpacked, bytes_for, packed}
 use Rattle.columnar.specs.Cells.{Column}

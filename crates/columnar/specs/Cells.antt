@@ -10,7 +10,7 @@
 --     Ticks              the rows of a filter that is given, each a cell of a boolean; none where no filter is given
 --     passes ts n        which of n rows a filter lets through: those for which it holds a valid yes
 --     admitted_rows ps cs what is seen of each row that is let through, and null for every other
---     kept_rows f ps cs   these rows as a column with a mask, every null of them over the filler f
+--     kept_rows f ps cs  these rows as a column with a mask, every null of them over the filler f
 use Rattle.std.specs.Prelude.{ℕ, zero, suc, Bool, true, false, cond, not, ◌&&◌, List, [], ◌∷◌, map, is_some, Some, None, count_by, Option}
 
 pub record Cell (X : Type 0) : Type 0 where

@@ -1,8 +1,8 @@
 -- List columns, as the Apache Arrow columnar format lays them out.
 --
 --     offset_at os j        offset j
---     natural z            a number that is not negative
---     OffsetsOk os n       there is an offset, none is negative or below its predecessor, and the last is at most n
+--     natural z             a number that is not negative
+--     OffsetsOk os n        there is an offset, none is negative or below its predecessor, and the last is at most n
 --     list_at os items j    the items from offset j up to, not including, offset j + 1
 --     list_row os items j   row j, absent past the end
 --     list_cells os items   all rows: list columns carry no masks

@@ -1,11 +1,11 @@
 -- Packed bits, as the Apache Arrow columnar format lays them out.
 --
 --     bit_at bytes k          bit k: bit k mod 8, counted from the least significant, of byte k / 8
---     unpacked bytes s n     the bits of n rows from bit s on
+--     unpacked bytes s n      the bits of n rows from bit s on
 --     bit_row bytes s n j     row j of those n rows, absent past the end
 --     bytes_for n             how many bytes n bits take: one for each eight begun
 --     byte_at bits k          byte k of bits that are packed, with zeros after the last bit
---     packed bits            the bytes of bits, from bit 0 on
+--     packed bits             the bytes of bits, from bit 0 on
 use Rattle.std.specs.Prelude.{ℕ, ◌+◌, ◌*◌, ◌/◌, ◌%◌, ◌^◌, Bool, false, cond, List, map, length, Some, None, sum_by, Option, ◌==◌, nat_lt, slice_index, slice_index_or}
 use Rattle.std.specs.List.{range_with_len}
 

@@ -5,7 +5,7 @@
 --     column_cells m s xs      the cells of values under an optional mask
 --     boolean_cells b s m f n  the cells of n packed booleans under an optional mask
 --     ticks_of v s m f n       the ticks of a filter, given by its optional value bytes
---     Within bytes s n        n rows from bit s on lie within optional bytes
+--     Within bytes s n         n rows from bit s on lie within optional bytes
 use Rattle.std.specs.Prelude.{ℕ, ◌+◌, ◌*◌, ◌≤◌, Bool, true, List, [], ◌∷◌, length, Some, None, Option}
 use Rattle.columnar.specs.Packed.{bit_at, unpacked}
 use Rattle.columnar.specs.Cells.{Cell, cell, Ticks}

@@ -2,8 +2,8 @@
 --
 --     Credit same               different keys, by first arrival
 --     distinct same             the kind: the credit's keys are its state row, their number is shown
---     ListsValues rows ks      ks has each value of the rows, no other, and none twice
---     CountsDifferentValues   what is shown of rows, in terms of their values alone
+--     ListsValues rows ks       ks has each value of the rows, no other, and none twice
+--     CountsDifferentValues     what is shown of rows, in terms of their values alone
 use Rattle.std.specs.Prelude.{◌≡◌, ℕ, ◌<◌, Bool, true, false, List, [], ◌∷◌, length, ℤ, pos, Some, None, Option, slice_index_or, refl}
 use Rattle.std.specs.List.{ContainsAt as Has}
 use Rattle.groups.specs.Kind.{Kind, joined, always_plain}

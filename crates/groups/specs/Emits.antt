@@ -2,8 +2,8 @@
 --
 --     taken e xs     what a list has for the groups asked for
 --     others e xs    what it has for the others, in their order
---     count_of e n    how many groups are asked for where n are kept
---     too_many e n    whether more groups are asked for than the n that are kept
+--     count_of e n   how many groups are asked for where n are kept
+--     too_many e n   whether more groups are asked for than the n that are kept
 --     resets e       whether the switch is plain again after these groups are removed
 use Rattle.std.specs.Prelude.{ℕ, Bool, true, false, List, [], take, drop, nat_lt}
 use Rattle.groups.specs.declared.emit.EmitTo.{EmitTo}

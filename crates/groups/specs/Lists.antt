@@ -4,8 +4,8 @@
 --     deal f es xs       entries dealt in order, each to the place that it names
 --     zip xs ys          the pairs of two lists, place by place
 --     has n ns           whether a number is in a list
---     all_below n ns      whether each is below n
---     names_from a k ns   whether the k numbers from a on are all in the list
+--     all_below n ns     whether each is below n
+--     names_from a k ns  whether the k numbers from a on are all in the list
 use Rattle.std.specs.Prelude.{ℕ, zero, suc, Bool, true, false, ◌&&◌, ◌||◌, List, [], ◌∷◌, ◌==◌, nat_lt}
 
 abbrev pub change : {A : Type 0} → (A → A) → ℕ → List A → List A

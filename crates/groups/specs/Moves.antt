@@ -1,6 +1,6 @@
 -- Groups in memory: places written over, and places moved down.
 --
---     refilled xs a b x      the places from a up to b written over by x
+--     refilled xs a b x       the places from a up to b written over by x
 --     over_front xs ys n      the first n of xs over those of ys
 --     moved_down xs n kept    the places from n up to `kept` moved to the front
 use Rattle.std.specs.Prelude.{ℕ, ◌-◌, List, ◌++◌, take, drop, replicate}

@@ -3,7 +3,7 @@
 --
 --     same_z a b       the same signed number
 --     same_door a b    the same street and the same house
---     packed a        a door as one number: the street above the 16 bits of the house
+--     packed a         a door as one number: the street above the 16 bits of the house
 use Rattle.std.specs.Prelude.{◌≡◌, ℕ, ◌+◌, ◌*◌, Bool, true, ◌&&◌, ℤ, ◌==◌, nat_eq, refl}
 use Rattle.std.proofs.Common.{sym, ap, ap₂, ◌∙◌, of_z}
 use Rattle.std.specs.Int.{w64}

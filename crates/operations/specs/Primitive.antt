@@ -3,7 +3,7 @@
 --     Combines rule          the rule's laws: grouping and order do not matter
 --     primitive start rule   the kind: a credit is a marked value, or the one unmarked credit
 --     marked c, value s c    a credit as a mark and a value
---     MarkAndValue         how a join goes by marks and values
+--     MarkAndValue           how a join goes by marks and values
 use Rattle.std.specs.Prelude.{◌≡◌, Bool, true, false, ◌||◌, is_some, Some, None, Option}
 use Rattle.std.specs.Option.{unwrap_or}
 use Rattle.groups.specs.Kind.{Kind, by_nulls}

@@ -1,10 +1,10 @@
 -- What the primitive kind shows of rows, in terms of the values among them alone.
 --
---     values rs              the values among rows, in order
+--     values rs               the values among rows, in order
 --     shown_of start rule rs  what is shown of the join of the rows
---     Shows P vs c           nothing where there are no values, else a value that P says of them
+--     Shows P vs c            nothing where there are no values, else a value that P says of them
 --     total_z vs              the plain sum
---     UpTo a b               an earlier second, or the same second and a depot that is not higher
+--     UpTo a b                an earlier second, or the same second and a depot that is not higher
 use Rattle.std.specs.Prelude.{◌≡◌, ℕ, ◌%◌, ◌^◌, ◌<◌, ◌≤◌, Bool, true, ◌⊎◌, List, [], ◌∷◌, ℤ, pos, ◌+ℤ◌, ◌≤ℤ◌, Some, None, Decides, sum, count_by, Option, FitsSigned}
 use Rattle.std.specs.List.{ContainsAt as Has, AllByRecursion}
 use Rattle.std.specs.Int.{int_wrap, w64}

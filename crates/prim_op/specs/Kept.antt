@@ -1,7 +1,7 @@
 -- How values and marks lie in an accumulator's memory, and what they mean.
 --
 --     credits_of ms vs        a credit for each group: its value if it is marked, and else the empty one
---     Unset start ms vs      a group that is not marked has the start value
+--     Unset start ms vs       a group that is not marked has the start value
 --     marked_at ms ps         marks after visits; combined_at start rule vs ps: values after visits
 use Rattle.std.specs.Prelude.{◌≡◌, ℕ, Bool, true, false, cond, List, [], ◌∷◌, Some, None, fold, Option, slice_index_or, slice_set}
 

@@ -1,7 +1,7 @@
 -- What an accumulator under an operation means, and how its memory lies.
 --
 --     meaning_of s      a credit for each kept group, the switch and the limits; it keeps no pairs
---     Sound start s    the kept groups and the limit lie within the memory, and unmarked groups have the start value
+--     Sound start s     the kept groups and the limit lie within the memory, and unmarked groups have the start value
 use Rattle.std.specs.Prelude.{◌≤◌, Bool, not, List, length, take, Option}
 use Rattle.groups.specs.Tally.{Meaning}
 use Rattle.groups.specs.Seen.{is_plain, in_force}

@@ -1,7 +1,7 @@
 -- Words on lists, by places.
 --
 --     Each R xs ys          the lists are as long as each other, and R holds of the elements at each place
---     EachRow R j xs ys    the same, where R also knows the place's number, counted from j
+--     EachRow R j xs ys     the same, where R also knows the place's number, counted from j
 --     listed n f            f 0, f 1 and so on up to f (n − 1)
 --     gathered n f          the lists f 0, f 1 and so on up to f (n − 1), end to end
 use Rattle.std.specs.Prelude.{ℕ, zero, suc, List, [], ◌∷◌, ◌++◌}

@@ -7,14 +7,14 @@
 --     InOrder, InAnyOrder  when two bags have the same rows: equal, or equal up to order
 --     Shows row rows       a shown row is the join of these rows: its value, or null over the filler where that join is shown null
 --     Carries row rows     a state row reads as a credit alike the join of these rows
---     UpTo Same R         R holds of every list of rows that is the same as the entry's bag
+--     UpTo Same R          R holds of every list of rows that is the same as the entry's bag
 --     Showing, Writing     what holds of the rows that a turn showed, and wrote, each with its entry, if it did
 --     Closed os g row bag  a turn closed the group g, showing this row, and the book has this bag for it
 --     Agree c d            two rows differ at most in what lies under a null
---     AlikeButHidden     two turns differ at most in what lies under nulls, in rows that are not let through, and in the
+--     AlikeButHidden       two turns differ at most in what lies under nulls, in rows that are not let through, and in the
 --                          value bits of null ticks
 --     Promised             the promise on turns made of fresh accumulators, and their outcomes
---     RunsHold            it holds of the outcomes of all turns
+--     RunsHold             it holds of the outcomes of all turns
 use Rattle.std.specs.Prelude.{◌≡◌, ℕ, ◌<◌, true, List, [], ◌∷◌, ◌++◌, map, length, get_or, Some, None, slice_index_or}
 use mathlib.Core.List.{Permᴰ}
 use Rattle.std.specs.List.{AllByRecursion}

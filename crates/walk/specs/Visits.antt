@@ -2,7 +2,7 @@
 --
 --     visits gs cs ps        the group and the value of each valid row that is let through, in ascending order: gs are
 --                            the group indices, cs the rows, ps whether each row is let through
---     told_all after m vs     a visitor's model after a list of visits
+--     told_all after m vs    a visitor's model after a list of visits
 use Rattle.std.specs.Prelude.{ℕ, Bool, cond, ◌&&◌, List, [], ◌∷◌, fold}
 use Rattle.columnar.specs.Cells.{Cell}
 
