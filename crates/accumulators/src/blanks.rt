@@ -37,6 +37,7 @@ impl Accumulator for Blanks {
         Blanks { nulls: 0 }
     }
 
+    #[tactic(auto, using(crate::proofs::NullSteps::add_null, crate::proofs::NullSteps::add_value))]
     fn add(&mut self, row: Option<i64>)
         ensures { capped self.new.nulls ≡ counted (capped self.old.nulls) (null_count_kind.of_row row) }
     {

@@ -1,4 +1,4 @@
-use Rattle.std.proofs.Common.{◌<◌, length, sym, ap, ◌∙◌, rules}
+use Rattle.std.proofs.Common.{◌<◌, length, sym, ap, ◌∙◌, arith, rules}
 use Rattle.std.specs.Option.{option_map}
 use Rattle.columnar.specs.Cells.{seen}
 use Rattle.columnar.proofs.CellRows.{length_cells_from, nth_cells, seen_null}
@@ -8,10 +8,10 @@ pub valid-requires : goal.valid-requires
 valid-requires g c = let low : c.args.j < length c.args.self.now.values.now = simp length_cells_from at c.requires in search rules
 
 pub offset_bounds-values-j : goal.offset_bounds-values-j
-offset_bounds-values-j g c = let low : c.args.j < length c.args.self.now.values.now = simp length_cells_from at c.requires in search rules
+offset_bounds-values-j g c = let low : c.args.j < length c.args.self.now.values.now = simp length_cells_from at c.requires in omega arith
 
 pub bounds-values-j : goal.bounds-values-j
-bounds-values-j g c = simp length_cells_from at c.requires
+bounds-values-j g c = let low : c.args.j < length c.args.self.now.values.now = simp length_cells_from at c.requires in omega arith
 
 pub returns-then-valid : goal.returns-then-valid
 returns-then-valid g c =
