@@ -1,10 +1,10 @@
 -- The rules of the operations.
 --
 --     added_i64, added_u64   sums that wrap at the ends of their type
---     minZ, maxZ             the lesser and the greater of two numbers, of any width, are the standard library's
+--     int_min, int_max       the lesser and the greater of two numbers, of any width, are the standard library's
 --     earlier a b            a stamp of an earlier second, or of the same second and a lower depot
 --     later a b              the later of two stamps
---     odd_of a b             whether exactly one of two booleans is true; _&&_ and _||_ are the other two
+--     odd_of a b             whether exactly one of two booleans is true; ◌&&◌ and ◌||◌ are the other two
 use Rattle.std.specs.Prelude.{ℕ, ◌+◌, ◌%◌, ◌^◌, Bool, true, false, cond, not, ◌&&◌, ◌||◌, ℤ, ◌+ℤ◌, ◌==◌, nat_lt}
 use Rattle.std.specs.Int.{int_wrap, w64}
 use Rattle.operations.specs.declared.operation.Stamp.{Stamp}

@@ -7,7 +7,7 @@
 --     Group                a group by its accumulator and its opening number, which it keeps through renumbering
 --     Entry V              what the book has of a row that was shown or written: its group, if it is of one, and its bag
 --     Book V               the accounts, and for each turn so far the entries of the rows that it showed or wrote
---     Verdict              whether a call was accepted, refused, or, a hand_over, refused by its taker
+--     Verdict              whether a call was accepted, refused, or, a hand-over, refused by its taker
 --     counts filter j      whether row j counts: there is no filter, or its tick j is a valid yes
 --     rows_at, bags_at     what a batch, and a merge, adds to the bag at place g
 --     grown a n add        an account after groups are opened up to n, and `add g` is added to the bag at each place g
@@ -133,7 +133,7 @@ module _ {V S : Type 0} where
       let merging = set b.accounts j (grown (account b.accounts j) total (bags_at (bags_of given) groups)) in
       noted b (slice_set merging i (without (account merging i) e)) given
 
-  -- a hand_over that its taker refused counts as its peek
+  -- a hand-over that its taker refused counts as its peek
   abbrev pub peeked_only : Book V → Turn V S → List (Entry V)
   peeked_only b (update i rows filter groups total) = []
   peeked_only b (merge i sent groups total) = []

@@ -2,10 +2,10 @@
 --
 --     Place             where a state row was written: the turn, and the row of what that turn wrote, both from 0
 --     Sent S            a state row as it is merged: its cell, and the place where it was written, if one is given
---     Turn V S          a call with its arguments, and the number of the accumulator that it is made of; a hand_over has
+--     Turn V S          a call with its arguments, and the number of the accumulator that it is made of; a hand-over has
 --                       two, its giver and its taker. Buffers come in as their room
 --     Outcome S O       what comes of a turn: accepted with nothing to hand out; groups shown; state rows written; refused;
---                       a hand_over refused by its taker, which has written its state rows; or no such accumulator
+--                       a hand-over refused by its taker, which has written its state rows; or no such accumulator
 --     Layouts S O       how answers and states lie in their buffers
 --     named t           the accumulators that a turn names
 --     step ts t         the accumulators after a turn, and its outcome
