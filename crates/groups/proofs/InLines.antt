@@ -3,12 +3,8 @@ use Rattle.std.proofs.Common.{◌≡◌, ℕ, ◌<◌, Bool, true, false, cond, 
 use Rattle.columnar.specs.declared.refusal.Refusal.{Refusal}
 use Rattle.columnar.specs.declared.refusal.Refusal.TheVariants.{BitsOutOfBytes, MaskLength, Offsets, SpanOrder, TooManyRows, IndexCount, FilterLength, TotalBelowKept, TotalAboveLimit, IndexAboveTotal, GroupNotNamed, TooManyPairs, TooManyGroups, ShortBuffer}
 use Rattle.columnar.specs.Refusals.{number_of}
-use Rattle.groups.specs.Tally.{Conditions, holds, in_line}
-
--- the first of a list that holds: at `in_line`, the answer
-abbrev pub first_that : (Refusal → Bool) → List Refusal → Option Refusal
-first_that h [] = None
-first_that h (r ∷ rs) = cond (h r) (Some r) (first_that h rs)
+use Rattle.groups.specs.Tally.{Conditions, holds, in_line, foremost}
+use Rattle.groups.specs.InLine.{asked}
 
 abbrev In : Refusal → List Refusal → Type 0
 In q [] = ⊥
@@ -36,25 +32,25 @@ left_over : (b : Bool) (x : Refusal) (rest : Option Refusal) → cond b (Some x)
 left_over true x rest e = let z : ◌≡◌ {A = ℕ} 0 1 = cc in absurd (omega arith)
 left_over false x rest e = (refl, e)
 
-pub first_that_holds : (h : Refusal → Bool) (rs : List Refusal) (r : Refusal) → first_that h rs ≡ Some r → h r ≡ true
-first_that_holds h [] r e = let z : ◌≡◌ {A = ℕ} 0 1 = cc in absurd (omega arith)
-first_that_holds h (x ∷ xs) r e = ⊎_elim (λ w. ap h (sym w.1) ∙ w.0) (λ w. first_that_holds h xs r w.1) (came (h x) x r (first_that h xs) e)
+pub foremost_holds : (h : Refusal → Bool) (rs : List Refusal) (r : Refusal) → foremost (asked h rs) ≡ Some r → h r ≡ true
+foremost_holds h [] r e = let z : ◌≡◌ {A = ℕ} 0 1 = cc in absurd (omega arith)
+foremost_holds h (x ∷ xs) r e = ⊎_elim (λ w. ap h (sym w.1) ∙ w.0) (λ w. foremost_holds h xs r w.1) (came (h x) x r (foremost (asked h xs)) e)
 
-pub first_that_first : (h : Refusal → Bool) (rs : List Refusal) (r q : Refusal) → Rising rs → first_that h rs ≡ Some r → In q rs → number_of q < number_of r → h q ≡ false
-first_that_first h [] r q up e there lower = absurd there
-first_that_first h (x ∷ xs) r q up e there lower =
+pub foremost_first : (h : Refusal → Bool) (rs : List Refusal) (r q : Refusal) → Rising rs → foremost (asked h rs) ≡ Some r → In q rs → number_of q < number_of r → h q ≡ false
+foremost_first h [] r q up e there lower = absurd there
+foremost_first h (x ∷ xs) r q up e there lower =
     ⊎_elim
     (λ w.
     let lowest : number_of q < number_of x = subst (λ k. number_of q < number_of k) (sym w.1) lower in
     absurd (⊎_elim (λ is. let same : number_of x ≡ number_of q = ap number_of is in omega arith) (λ later. omega (arith, before_in (number_of x) xs q up.0 later)) there))
-    (λ w. ⊎_elim (λ is. ap h (sym is) ∙ w.0) (λ later. first_that_first h xs r q up.1 w.1 later lower) there)
-    (came (h x) x r (first_that h xs) e)
+    (λ w. ⊎_elim (λ is. ap h (sym is) ∙ w.0) (λ later. foremost_first h xs r q up.1 w.1 later lower) there)
+    (came (h x) x r (foremost (asked h xs)) e)
 
-pub first_that_none : (h : Refusal → Bool) (rs : List Refusal) (q : Refusal) → first_that h rs ≡ None → In q rs → h q ≡ false
-first_that_none h [] q e there = absurd there
-first_that_none h (x ∷ xs) q e there =
-    let w = left_over (h x) x (first_that h xs) e in
-    ⊎_elim (λ is. ap h (sym is) ∙ w.0) (λ later. first_that_none h xs q w.1 later) there
+pub foremost_none : (h : Refusal → Bool) (rs : List Refusal) (q : Refusal) → foremost (asked h rs) ≡ None → In q rs → h q ≡ false
+foremost_none h [] q e there = absurd there
+foremost_none h (x ∷ xs) q e there =
+    let w = left_over (h x) x (foremost (asked h xs)) e in
+    ⊎_elim (λ is. ap h (sym is) ∙ w.0) (λ later. foremost_none h xs q w.1 later) there
 
 -- each refusal is in line, or holds of no call
 pub placed : (c : Conditions) (q : Refusal) → In q in_line ⊎ (holds c q ≡ false)
