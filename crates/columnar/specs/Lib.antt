@@ -4,3 +4,4 @@ pub mod Rows
 pub mod Lists
 pub mod Refusals
 pub mod Views
+pub mod Packings

@@ -1,83 +1,91 @@
-ghost use Rattle.std.specs.Prelude.{◌≡◌, ℕ, ◌+◌, ◌*◌, ◌<◌, ◌≤◌, List, [], length, is_ok, if◌then◌else◌, Some, None};
+ghost use Rattle.std.specs.Prelude.{◌≡◌, ℕ, ◌<◌, List, length, ⊤, Some, None, IfOk};
 ghost use Rattle.std.specs.List.{slice_get};
 ghost use Rattle.std.specs.Option.{option_map};
 ghost use Rattle.std.specs.Result.{result_err};
 ghost use Rattle.columnar.specs.Cells.{Cell, seen, nulls as null_rows};
 ghost use Rattle.columnar.specs.Refusals.{lengths_refusal};
-ghost use Rattle.columnar.specs.Rows.{Within, column_cells};
+ghost use Rattle.columnar.specs.Rows.{column_cells};
+ghost use Rattle.columnar.specs.Views.{cells_under};
 
-use crate::bits::{count_nulls, valid};
-use crate::mask::Mask;
+use crate::items::{Items, Mask};
+use crate::packing::{Packed, Packing, Plain};
 use crate::refusal::Refusal;
 use crate::rows::{FlatRows, Rows};
+use crate::validity::Validity;
+use std::alloc::AllocError;
 
-/// Values, lent, with the optional mask that says which of them are valid.
-#[derive(Drop)]
-pub struct PrimitiveColumn<'a, T> {
-    pub values: &'a [T],
-    pub mask: Option<&'a [u8]>,
-    pub start: usize,
+/// Items, lent, and which of their rows are valid.
+pub struct Column<'a, L: Packing> {
+    pub values: Items<'a, L>,
+    pub validity: Validity<'a>,
     pub nulls: usize,
-    ghost fits: { Within (option_map (λ x. x.now) mask) start (length values.now) },
-    ghost counted: { nulls ≡ null_rows (column_cells (option_map (λ x. x.now) mask) start values.now) },
+    ghost even: { validity.len ≡ values.len },
+    ghost counted: { nulls ≡ null_rows (cells_under validity (L.items values.slots.now values.start values.len)) },
 }
 
-impl<'a, T: Copy> PrimitiveColumn<'a, T> {
+// `Clone` cannot be derived for a generic struct with a ghost field.
+impl<'a, L: Packing> Clone for Column<'a, L> {
+    ghost is_clone = { λ old new. new ≡ old };
+
+    ghost is_infallible = { λ _. ⊤ };
+
+    fn clone(&self) -> Result<Column<'a, L>, AllocError> {
+        Ok(*self)
+    }
+}
+
+impl<'a, L: Packing> Copy for Column<'a, L> {}
+
+/// Values, lent, a slot for each.
+pub type PrimitiveColumn<'a, T> = Column<'a, Plain<T>>;
+
+/// Packed booleans, lent.
+pub type BooleanColumn<'a> = Column<'a, Packed>;
+
+impl<'a, L: Packing> Column<'a, L> {
     /// A column without a mask.
-    pub fn plain(values: &'a [T]) -> PrimitiveColumn<'a, T>
-        ensures { column_cells (option_map (λ x. x.now) result.mask) result.start result.values.now ≡ column_cells None 0 values.now }
+    pub fn plain(values: Items<'a, L>) -> Column<'a, L>
+        ensures { cells_under result.validity (L.items result.values.slots.now result.values.start result.values.len) ≡ column_cells None 0 (L.items values.entry.slots.now values.entry.start values.entry.len) }
     {
-        PrimitiveColumn {
+        Column {
             values,
-            mask: None,
-            start: 0,
+            validity: Validity::all(values.len),
             nulls: 0,
         }
     }
 
-    /// A column with a mask, or a refusal beside a column of no rows.
-    pub fn new(values: &'a [T], mask: Mask<'a>) -> (Result<(), Refusal>, PrimitiveColumn<'a, T>)
-        ensures refused { result_err result.0 ≡ lengths_refusal mask.entry.len (length values.now) }
-        ensures shows { column_cells (option_map (λ x. x.now) result.1.mask) result.1.start result.1.values.now ≡ (if is_ok result.0 then column_cells (Some mask.entry.bytes.now) mask.entry.start values.now else []) }
+    /// A column with a mask, or a refusal where the two differ in length.
+    pub fn new(values: Items<'a, L>, mask: Mask<'a>) -> Result<Column<'a, L>, Refusal>
+        ensures refused { result_err result ≡ lengths_refusal mask.entry.len values.entry.len }
+        ensures shows { IfOk result (λ c. cells_under c.validity (L.items c.values.slots.now c.values.start c.values.len) ≡ column_cells (Some mask.entry.slots.now) mask.entry.start (L.items values.entry.slots.now values.entry.start values.entry.len)) }
     {
-        if mask.len != values.len() {
-            return (
-                Err(Refusal::MaskLength),
-                PrimitiveColumn::plain(&values[0..0]),
-            );
+        if mask.len != values.len {
+            return Err(Refusal::MaskLength);
         }
-        let bytes = mask.bytes;
-        let start = mask.start;
-        let nulls = count_nulls(Some(bytes), start, values.len());
-        (
-            Ok(()),
-            PrimitiveColumn {
-                values,
-                mask: Some(bytes),
-                start,
-                nulls,
-            },
-        )
+        let validity = Validity::from(mask);
+        Ok(Column {
+            values,
+            validity,
+            nulls: validity.count_nulls(),
+        })
     }
 
     /// Row j: absent past the end, and in it a value or null.
-    pub fn row(&self, j: usize) -> Option<Option<T>>
-        ensures { result ≡ option_map seen (slice_get (column_cells (option_map (λ x. x.now) self.now.mask) self.now.start self.now.values.now) j) }
+    pub fn row(&self, j: usize) -> Option<Option<L::Item>>
+        ensures { result ≡ option_map seen (slice_get (cells_under self.now.validity (L.items self.now.values.slots.now self.now.values.start self.now.values.len)) j) }
     {
-        let values = self.values;
-        if j >= values.len() {
+        if j >= self.values.len {
             return None;
         }
         Some(self.read(j))
     }
 }
 
-impl<'a, T: Copy> Rows<T> for PrimitiveColumn<'a, T> {
-    ghost cells = { λ c. column_cells (option_map (λ x. x.now) c.mask) c.start c.values.now };
+impl<'a, L: Packing> Rows<L::Item> for Column<'a, L> {
+    ghost cells = { λ c. cells_under c.validity (L.items c.values.slots.now c.values.start c.values.len) };
 
     fn len(&self) -> usize {
-        let values = self.values;
-        values.len()
+        self.values.len
     }
 
     fn null_count(&self) -> usize {
@@ -85,11 +93,10 @@ impl<'a, T: Copy> Rows<T> for PrimitiveColumn<'a, T> {
     }
 }
 
-impl<'a, T: Copy> FlatRows<T> for PrimitiveColumn<'a, T> {
-    fn read(&self, j: usize) -> Option<T> {
-        let values = self.values;
-        if valid(self.mask, self.start, j) {
-            return Some(values[j]);
+impl<'a, L: Packing> FlatRows<L::Item> for Column<'a, L> {
+    fn read(&self, j: usize) -> Option<L::Item> {
+        if self.validity.valid(j) {
+            return Some(self.values.get(j));
         }
         None
     }

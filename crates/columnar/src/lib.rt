@@ -1,10 +1,11 @@
 #![tactic(auto)]
 
 pub mod bits;
-pub mod boolean;
 pub mod column;
 pub mod filter;
+pub mod items;
 pub mod list;
-pub mod mask;
+pub mod packing;
 pub mod refusal;
 pub mod rows;
+pub mod validity;

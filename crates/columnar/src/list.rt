@@ -1,4 +1,4 @@
-ghost use Rattle.std.specs.Prelude.{◌≡◌, ◌<◌, false, [], ◌∷◌, length, pos, ◌≤ℤ◌, is_ok, if◌then◌else◌, Decides};
+ghost use Rattle.std.specs.Prelude.{◌≡◌, ◌<◌, false, length, pos, ◌≤ℤ◌, is_ok, Decides, IfOk};
 ghost use Rattle.std.specs.Option.{option_map};
 ghost use Rattle.std.specs.Result.{result_err};
 ghost use Rattle.columnar.specs.Lists.{OffsetsOk, natural, offset_at, list_row, list_cells};
@@ -42,23 +42,17 @@ fn offset(offsets: &[i32], j: usize) -> usize
 }
 
 impl<'a, T> ListColumn<'a, T> {
-    /// A view, or a refusal beside a view of no rows.
-    pub fn new(offsets: &'a [i32], items: &'a [T]) -> (Result<(), Refusal>, ListColumn<'a, T>)
-        ensures refused { result_err result.0 ≡ offsets_refusal offsets.now (length items.now) }
-        ensures decides { Decides (is_ok result.0) (OffsetsOk offsets.now (length items.now)) }
-        ensures offsets { result.1.offsets.now ≡ (if is_ok result.0 then offsets.now else pos 0 ∷ []) }
-        ensures items { result.1.items.now ≡ items.now }
+    /// A view, or a refusal where the offsets cannot stand over the items.
+    pub fn new(offsets: &'a [i32], items: &'a [T]) -> Result<ListColumn<'a, T>, Refusal>
+        ensures refused { result_err result ≡ offsets_refusal offsets.now (length items.now) }
+        ensures decides { Decides (is_ok result) (OffsetsOk offsets.now (length items.now)) }
+        ensures offsets { IfOk result (λ v. v.offsets.now ≡ offsets.now) }
+        ensures items { IfOk result (λ v. v.items.now ≡ items.now) }
     {
         if refused(offsets, items.len()) {
-            return (
-                Err(Refusal::Offsets),
-                ListColumn {
-                    offsets: &[0],
-                    items,
-                },
-            );
+            return Err(Refusal::Offsets);
         }
-        (Ok(()), ListColumn { offsets, items })
+        Ok(ListColumn { offsets, items })
     }
 
     /// Row j, absent past the end.

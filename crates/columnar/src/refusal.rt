@@ -1,37 +1,39 @@
 ghost use Rattle.std.specs.Prelude.{◌≡◌};
 ghost use Rattle.columnar.specs.Refusals.{number_of};
 
+use std::fmt;
+
 /// Why a call was refused. The order is that of the numbers, 1 to 14.
 #[derive(Clone, Copy, PartialEq, Eq, Debug)]
 pub enum Refusal {
     /// A mask's or packed column's start plus length exceeds eight times its bytes.
-    BitsOutOfBytes,
+    BitsOutOfBytes = 1,
     /// A column's mask and values differ in length.
-    MaskLength,
+    MaskLength = 2,
     /// A list column has no offset, a negative one, one below its predecessor, or a last one above its items.
-    Offsets,
+    Offsets = 3,
     /// A span record's least exceeds its greatest.
-    SpanOrder,
+    SpanOrder = 4,
     /// The column has more rows than the accumulator takes.
-    TooManyRows,
+    TooManyRows = 5,
     /// Its rows differ in number from the group indices.
-    IndexCount,
+    IndexCount = 6,
     /// The filter has another length than the rows.
-    FilterLength,
+    FilterLength = 7,
     /// The total is below the number of kept groups.
-    TotalBelowKept,
+    TotalBelowKept = 8,
     /// The total is above the most groups that the accumulator keeps.
-    TotalAboveLimit,
+    TotalAboveLimit = 9,
     /// A group index is not below the total.
-    IndexAboveTotal,
+    IndexAboveTotal = 10,
     /// A group from the kept number up to the total is named by no row.
-    GroupNotNamed,
+    GroupNotNamed = 11,
     /// The pairs kept after the call would be too many.
-    TooManyPairs,
+    TooManyPairs = 12,
     /// More groups are asked for than are kept.
-    TooManyGroups,
+    TooManyGroups = 13,
     /// An answer buffer has fewer places than needed.
-    ShortBuffer,
+    ShortBuffer = 14,
 }
 
 impl Refusal {
@@ -39,21 +41,14 @@ impl Refusal {
     pub fn number(self) -> u8
         ensures { result ≡ number_of self }
     {
-        match self {
-            Refusal::BitsOutOfBytes => 1,
-            Refusal::MaskLength => 2,
-            Refusal::Offsets => 3,
-            Refusal::SpanOrder => 4,
-            Refusal::TooManyRows => 5,
-            Refusal::IndexCount => 6,
-            Refusal::FilterLength => 7,
-            Refusal::TotalBelowKept => 8,
-            Refusal::TotalAboveLimit => 9,
-            Refusal::IndexAboveTotal => 10,
-            Refusal::GroupNotNamed => 11,
-            Refusal::TooManyPairs => 12,
-            Refusal::TooManyGroups => 13,
-            Refusal::ShortBuffer => 14,
-        }
+        self as u8
+    }
+}
+
+/// Its number and its name.
+impl fmt::Display for Refusal {
+    fn fmt<W: fmt::Write>(&self, f: &mut fmt::Formatter<W>) -> fmt::Result {
+        let number = self.number();
+        write!(f, "{number}, {self:?}")
     }
 }

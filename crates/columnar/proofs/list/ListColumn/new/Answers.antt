@@ -7,8 +7,8 @@ pub returns-then-refused : goal.returns-then-refused
 returns-then-refused g c = record {
   refused = ap (λ b. cond b (Some Offsets) None) c.if-refused.ensures;
   decides = refused_decides c.args.offsets.now (length c.args.items.now) (sym c.if-refused.ensures);
-  offsets = refl;
-  items = refl;
+  offsets = tt;
+  items = tt;
 }
 
 pub returns : goal.returns

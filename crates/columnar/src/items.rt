@@ -1,0 +1,93 @@
+ghost use Rattle.std.specs.Prelude.{◌≡◌, ◌+◌, ◌*◌, ◌<◌, ◌≤◌, length, ⊤, slice_index_or, OnOk, IfOk};
+ghost use Rattle.std.specs.List.{slice_get};
+ghost use Rattle.std.specs.Result.{result_err};
+ghost use Rattle.columnar.specs.Packed.{unpacked};
+ghost use Rattle.columnar.specs.Refusals.{bits_refusal};
+
+use crate::packing::{Packed, Packing, Plain};
+use crate::refusal::Refusal;
+use std::alloc::AllocError;
+
+/// Items of a column, lent: those of `len` rows from the place `start` on.
+pub struct Items<'a, L: Packing> {
+    pub slots: &'a [L::Slot],
+    pub start: usize,
+    pub len: usize,
+    ghost fits: { start + len ≤ L.holds (length slots.now) },
+}
+
+// `Clone` cannot be derived for a generic struct with a ghost field.
+impl<'a, L: Packing> Clone for Items<'a, L> {
+    ghost is_clone = { λ old new. new ≡ old };
+
+    ghost is_infallible = { λ _. ⊤ };
+
+    fn clone(&self) -> Result<Items<'a, L>, AllocError> {
+        Ok(*self)
+    }
+}
+
+impl<'a, L: Packing> Copy for Items<'a, L> {}
+
+/// Packed bits, lent: bit `start + j` of the bytes is row j.
+pub type Mask<'a> = Items<'a, Packed>;
+
+impl<'a> Items<'a, Packed> {
+    /// A view, or a refusal where its last bit would lie past the bytes.
+    pub fn new(bytes: &'a [u8], start: usize, len: usize) -> Result<Mask<'a>, Refusal>
+        ensures refused { result_err result ≡ bits_refusal (length bytes.now) start len }
+        ensures bytes { IfOk result (λ v. v.slots.now ≡ bytes.now) }
+        ensures start { IfOk result (λ v. v.start ≡ start) }
+        ensures len { IfOk result (λ v. v.len ≡ len) }
+    {
+        // The sum of the two need not fit a word, nor eight times the bytes.
+        if start as u128 + len as u128 > 8 * (bytes.len() as u128) {
+            return Err(Refusal::BitsOutOfBytes);
+        }
+        Ok(Items {
+            slots: bytes,
+            start,
+            len,
+        })
+    }
+}
+
+/// All of a slice.
+impl<'a, T: Copy> From<&'a [T]> for Items<'a, Plain<T>> {
+    ghost from_gives = { λ xs v. (v.slots.now ≡ xs.now) × ((v.start ≡ 0) × (v.len ≡ length xs.now)) };
+
+    fn from(values: &'a [T]) -> Items<'a, Plain<T>> {
+        Items {
+            slots: values,
+            start: 0,
+            len: values.len(),
+        }
+    }
+}
+
+impl<'a, L: Packing> Items<'a, L> {
+    /// The number of rows.
+    pub fn len(&self) -> usize
+        ensures { result ≡ self.now.len }
+    {
+        self.len
+    }
+
+    /// Item j, of those that there are.
+    pub fn get(&self, j: usize) -> L::Item
+        requires { j < self.now.len }
+        ensures { result ≡ slice_index_or (L.items self.now.slots.now self.now.start self.now.len) j result }
+    {
+        L::item(self.slots, self.start, j)
+    }
+
+    /// Row j, absent past the end.
+    pub fn row(&self, j: usize) -> Option<L::Item>
+        ensures { result ≡ slice_get (L.items self.now.slots.now self.now.start self.now.len) j }
+    {
+        if j >= self.len {
+            return None;
+        }
+        Some(self.get(j))
+    }
+}

@@ -1,0 +1,67 @@
+ghost use Rattle.std.specs.Prelude.{◌≡◌, ℕ, ◌+◌, ◌*◌, ◌<◌, ◌≤◌, List, length, slice_index_or};
+ghost use Rattle.std.specs.List.{between};
+ghost use Rattle.columnar.specs.Packed.{unpacked};
+ghost use Rattle.columnar.specs.Packings.{length_plain, length_packed};
+
+use crate::bits::bit;
+use std::marker::PhantomData;
+
+/// How the items of a column lie in lent slots.
+pub trait Packing: Copy {
+    type Item: Copy;
+
+    type Slot: Copy;
+
+    /// How many items so many slots hold.
+    ghost holds: { ℕ → ℕ };
+
+    /// So many items, from a place on.
+    ghost items: { List Self.Slot → ℕ → ℕ → List Self.Item };
+
+    /// Item j of those from the place `start` on.
+    fn item(slots: &[Self::Slot], start: usize, j: usize) -> Self::Item
+        requires { start + j < holds (length slots.now) }
+        ensures { (n : ℕ) → j < n → result ≡ slice_index_or (items slots.now start n) j result };
+
+    ghost counts: { (slots : List Self.Slot) (start n : ℕ) → start + n ≤ holds (length slots) → length (items slots start n) ≡ n };
+}
+
+/// A slot for each item.
+#[derive(Clone, Copy)]
+pub struct Plain<T>(PhantomData<T>);
+
+impl<T: Copy> Packing for Plain<T> {
+    type Item = T;
+
+    type Slot = T;
+
+    ghost holds = { λ n. n };
+
+    ghost items = { λ xs start n. between start (start + n) xs };
+
+    fn item(slots: &[T], start: usize, j: usize) -> T {
+        slots[start + j]
+    }
+
+    ghost counts = { length_plain };
+}
+
+/// Booleans packed into bytes, a bit for each.
+#[derive(Clone, Copy)]
+pub struct Packed;
+
+impl Packing for Packed {
+    type Item = bool;
+
+    type Slot = u8;
+
+    ghost holds = { λ n. 8 * n };
+
+    ghost items = { unpacked };
+
+    fn item(slots: &[u8], start: usize, j: usize) -> bool {
+        bit(slots, start, j)
+    }
+
+    ghost counts = { length_packed };
+}
