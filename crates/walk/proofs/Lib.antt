@@ -1,3 +1,2 @@
-pub mod Plain
-pub mod Ticked
+pub mod Tests
 pub mod Walks

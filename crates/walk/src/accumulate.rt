@@ -1,15 +1,15 @@
-ghost use Rattle.std.specs.Prelude.{◌≡◌, ℕ, ◌+◌, ◌*◌, ◌<◌, ◌≤◌, List, length, IfSome, Some, None};
-ghost use Rattle.std.specs.Option.{option_map};
-ghost use Rattle.std.specs.List.{AllByRecursion};
+ghost use Rattle.std.specs.Prelude.{◌≡◌, ℕ, ◌<◌, Bool, List, map, length, IfSome};
+ghost use Rattle.std.specs.List.{range_with_len, AllByRecursion};
 ghost use Rattle.columnar.specs.Cells.{passes as let_through};
-ghost use Rattle.columnar.specs.Rows.{column_cells, boolean_cells, ticks_of, Within};
-ghost use Rattle.columnar.specs.Views.{ticks};
-ghost use Rattle.walk.specs.Visits.{visits, told_all};
+ghost use Rattle.columnar.specs.Packed.{unpacked};
+ghost use Rattle.columnar.specs.Rows.{cells_from};
+ghost use Rattle.columnar.specs.Views.{cells_under, ticks};
+ghost use Rattle.walk.specs.Visits.{visits, told_all, Tests};
 
-use columnar::bits::{bit, passes, valid};
-use columnar::boolean::BooleanColumn;
-use columnar::column::PrimitiveColumn;
-use columnar::filter::Filter;
+use columnar::column::{BooleanColumn, Column};
+use columnar::filter::{Filter, passes};
+use columnar::items::Items;
+use columnar::packing::Packing;
 
 /// What a walk tells of each row that counts: a model, and what one visit makes of it.
 pub trait Visitor<T> {
@@ -32,259 +32,108 @@ pub trait Visitor<T> {
         ensures fit { fit value };
 }
 
-fn walk_all<T: Copy, V: Visitor<T>>(groups: &[usize], values: &[T], visitor: &mut V)
-    requires named { AllByRecursion (λ k. k < (V.Visitor.fixed visitor.old).0) groups.now }
-    requires even { length groups.now ≡ length values.now }
-    ensures told { V.Visitor.model visitor.new ≡ told_all V.Visitor.after (V.Visitor.model visitor.old) (visits groups.now (column_cells None 0 values.now) (let_through None (length groups.now))) }
-    ensures same { V.Visitor.fixed visitor.new ≡ V.Visitor.fixed visitor.old }
-    ensures fits { AllByRecursion (λ v. V.Visitor.fit v.1) (visits groups.now (column_cells None 0 values.now) (let_through None (length groups.now))) }
-{
-    for (group, value) in groups.iter().zip(values.iter()) {
-        visitor.visit(*group, *value);
-    }
-}
-
-fn walk_valid<T: Copy, V: Visitor<T>>(
-    groups: &[usize],
-    values: &[T],
-    mask: Option<&[u8]>,
-    start: usize,
+/// The one rule of every walk: tells the visitor the group and the value of each row that is valid and passes, by tests of
+/// its number, in ascending order.
+fn walk<L: Packing, P: Fn(usize) -> bool, Q: Fn(usize) -> bool, V: Visitor<L::Item>>(
+    group_indices: &[usize],
+    values: &Items<'_, L>,
+    valid: P,
+    passes: Q,
     visitor: &mut V,
 )
-    requires named { AllByRecursion (λ k. k < (V.Visitor.fixed visitor.old).0) groups.now }
-    requires even { length groups.now ≡ length values.now }
-    requires rows { Within (option_map (λ x. x.now) mask) start (length groups.now) }
-    ensures told { V.Visitor.model visitor.new ≡ told_all V.Visitor.after (V.Visitor.model visitor.old) (visits groups.now (column_cells (option_map (λ x. x.now) mask.entry) start values.now) (let_through None (length groups.now))) }
+    requires even { length group_indices.now ≡ values.now.len }
+    requires named { AllByRecursion (λ k. k < (V.Visitor.fixed visitor.old).0) group_indices.now }
+    requires valid { (j : ℕ) → j < length group_indices.now → P.pre valid j }
+    requires passes { (j : ℕ) → j < length group_indices.now → Q.pre passes j }
+    ensures told { (p q : ℕ → Bool) → Tests (P.post valid) p (length group_indices.now) → Tests (Q.post passes) q (length group_indices.now) → V.Visitor.model visitor.new ≡ told_all V.Visitor.after (V.Visitor.model visitor.old) (visits group_indices.now (cells_from p 0 (L.items values.now.slots.now values.now.start values.now.len)) (map q (range_with_len 0 (length group_indices.now)))) }
     ensures same { V.Visitor.fixed visitor.new ≡ V.Visitor.fixed visitor.old }
-    ensures fits { AllByRecursion (λ v. V.Visitor.fit v.1) (visits groups.now (column_cells (option_map (λ x. x.now) mask.entry) start values.now) (let_through None (length groups.now))) }
+    ensures fits { (p q : ℕ → Bool) → Tests (P.post valid) p (length group_indices.now) → Tests (Q.post passes) q (length group_indices.now) → AllByRecursion (λ v. V.Visitor.fit v.1) (visits group_indices.now (cells_from p 0 (L.items values.now.slots.now values.now.start values.now.len)) (map q (range_with_len 0 (length group_indices.now)))) }
 {
-    for (j, group) in groups.iter().enumerate() {
-        if valid(mask, start, j) {
-            visitor.visit(*group, values[j]);
-        }
-    }
-}
-
-fn walk_passed<T: Copy, V: Visitor<T>>(
-    groups: &[usize],
-    values: &[T],
-    yes: &[u8],
-    at: usize,
-    known: Option<&[u8]>,
-    from: usize,
-    visitor: &mut V,
-)
-    requires named { AllByRecursion (λ k. k < (V.Visitor.fixed visitor.old).0) groups.now }
-    requires even { length groups.now ≡ length values.now }
-    requires yes { at + length groups.now ≤ 8 * length yes.now }
-    requires known { Within (option_map (λ x. x.now) known) from (length groups.now) }
-    ensures told { V.Visitor.model visitor.new ≡ told_all V.Visitor.after (V.Visitor.model visitor.old) (visits groups.now (column_cells None 0 values.now) (let_through (ticks_of (Some yes.now) at (option_map (λ x. x.now) known.entry) from (length groups.now)) (length groups.now))) }
-    ensures same { V.Visitor.fixed visitor.new ≡ V.Visitor.fixed visitor.old }
-    ensures fits { AllByRecursion (λ v. V.Visitor.fit v.1) (visits groups.now (column_cells None 0 values.now) (let_through (ticks_of (Some yes.now) at (option_map (λ x. x.now) known.entry) from (length groups.now)) (length groups.now))) }
-{
-    for (j, group) in groups.iter().enumerate() {
-        if passes(yes, at, known, from, j) {
-            visitor.visit(*group, values[j]);
-        }
-    }
-}
-
-fn walk_both<T: Copy, V: Visitor<T>>(
-    groups: &[usize],
-    values: &[T],
-    mask: Option<&[u8]>,
-    start: usize,
-    yes: &[u8],
-    at: usize,
-    known: Option<&[u8]>,
-    from: usize,
-    visitor: &mut V,
-)
-    requires named { AllByRecursion (λ k. k < (V.Visitor.fixed visitor.old).0) groups.now }
-    requires even { length groups.now ≡ length values.now }
-    requires rows { Within (option_map (λ x. x.now) mask) start (length groups.now) }
-    requires yes { at + length groups.now ≤ 8 * length yes.now }
-    requires known { Within (option_map (λ x. x.now) known) from (length groups.now) }
-    ensures told { V.Visitor.model visitor.new ≡ told_all V.Visitor.after (V.Visitor.model visitor.old) (visits groups.now (column_cells (option_map (λ x. x.now) mask.entry) start values.now) (let_through (ticks_of (Some yes.now) at (option_map (λ x. x.now) known.entry) from (length groups.now)) (length groups.now))) }
-    ensures same { V.Visitor.fixed visitor.new ≡ V.Visitor.fixed visitor.old }
-    ensures fits { AllByRecursion (λ v. V.Visitor.fit v.1) (visits groups.now (column_cells (option_map (λ x. x.now) mask.entry) start values.now) (let_through (ticks_of (Some yes.now) at (option_map (λ x. x.now) known.entry) from (length groups.now)) (length groups.now))) }
-{
-    for (j, group) in groups.iter().enumerate() {
-        if valid(mask, start, j) && passes(yes, at, known, from, j) {
-            visitor.visit(*group, values[j]);
+    for (j, group) in group_indices.iter().enumerate() {
+        if valid(j) && passes(j) {
+            visitor.visit(*group, values.get(j));
         }
     }
 }
 
 /// Tells the visitor the group and the value of each valid row that the filter lets through, in ascending order.
-pub fn accumulate<T: Copy, V: Visitor<T>>(
+pub fn accumulate<L: Packing, V: Visitor<L::Item>>(
     group_indices: &[usize],
-    values: &PrimitiveColumn<'_, T>,
+    values: &Column<'_, L>,
     opt_filter: &Filter<'_>,
     visitor: &mut V,
 )
-    requires even { length group_indices.now ≡ length (column_cells (option_map (λ x. x.now) values.now.mask) values.now.start values.now.values.now) }
+    requires even { length group_indices.now ≡ length (cells_under values.now.validity (L.items values.now.values.slots.now values.now.values.start values.now.values.len)) }
     requires named { AllByRecursion (λ k. k < (V.Visitor.fixed visitor.old).0) group_indices.now }
     requires ticked { IfSome (ticks opt_filter.now) (λ ts. length ts ≡ length group_indices.now) }
-    ensures told { V.Visitor.model visitor.new ≡ told_all V.Visitor.after (V.Visitor.model visitor.old) (visits group_indices.now (column_cells (option_map (λ x. x.now) values.now.mask) values.now.start values.now.values.now) (let_through (ticks opt_filter.now) (length group_indices.now))) }
+    ensures told { V.Visitor.model visitor.new ≡ told_all V.Visitor.after (V.Visitor.model visitor.old) (visits group_indices.now (cells_under values.now.validity (L.items values.now.values.slots.now values.now.values.start values.now.values.len)) (let_through (ticks opt_filter.now) (length group_indices.now))) }
     ensures same { V.Visitor.fixed visitor.new ≡ V.Visitor.fixed visitor.old }
-    ensures fits { AllByRecursion (λ v. V.Visitor.fit v.1) (visits group_indices.now (column_cells (option_map (λ x. x.now) values.now.mask) values.now.start values.now.values.now) (let_through (ticks opt_filter.now) (length group_indices.now))) }
+    ensures fits { AllByRecursion (λ v. V.Visitor.fit v.1) (visits group_indices.now (cells_under values.now.validity (L.items values.now.values.slots.now values.now.values.start values.now.values.len)) (let_through (ticks opt_filter.now) (length group_indices.now))) }
 {
-    let data = values.values;
-    let mask = values.mask;
-    let start = values.start;
+    let items = &values.values;
+    let validity = &values.validity;
     let at = opt_filter.start;
-    let known = opt_filter.mask;
-    let from = opt_filter.from;
+    let known = &opt_filter.validity;
     match (values.nulls, opt_filter.values) {
-        (n, None) if n == 0 => walk_all(group_indices, data, visitor),
-        (_, None) => walk_valid(group_indices, data, mask, start, visitor),
-        (n, Some(yes)) if n == 0 => walk_passed(group_indices, data, yes, at, known, from, visitor),
-        (_, Some(yes)) => walk_both(
+        (n, None) if n == 0 => walk(group_indices, items, |_| true, |_| true, visitor),
+        (_, None) => walk(
             group_indices,
-            data,
-            mask,
-            start,
-            yes,
-            at,
-            known,
-            from,
+            items,
+            |j| validity.valid(j),
+            |_| true,
+            visitor,
+        ),
+        (n, Some(yes)) if n == 0 => walk(
+            group_indices,
+            items,
+            |_| true,
+            |j| passes(yes, at, known, j),
+            visitor,
+        ),
+        (_, Some(yes)) => walk(
+            group_indices,
+            items,
+            |j| validity.valid(j),
+            |j| passes(yes, at, known, j),
             visitor,
         ),
     }
 }
 
-fn walk_bits_all<V: Visitor<bool>>(groups: &[usize], bits: &[u8], first: usize, visitor: &mut V)
-    requires named { AllByRecursion (λ k. k < (V.Visitor.fixed visitor.old).0) groups.now }
-    requires bits { first + length groups.now ≤ 8 * length bits.now }
-    ensures told { V.Visitor.model visitor.new ≡ told_all V.Visitor.after (V.Visitor.model visitor.old) (visits groups.now (boolean_cells bits.now first None 0 (length groups.now)) (let_through None (length groups.now))) }
-    ensures same { V.Visitor.fixed visitor.new ≡ V.Visitor.fixed visitor.old }
-    ensures fits { AllByRecursion (λ v. V.Visitor.fit v.1) (visits groups.now (boolean_cells bits.now first None 0 (length groups.now)) (let_through None (length groups.now))) }
-{
-    for (j, group) in groups.iter().enumerate() {
-        visitor.visit(*group, bit(bits, first, j));
-    }
-}
-
-fn walk_bits_valid<V: Visitor<bool>>(
-    groups: &[usize],
-    bits: &[u8],
-    first: usize,
-    mask: Option<&[u8]>,
-    start: usize,
-    visitor: &mut V,
-)
-    requires named { AllByRecursion (λ k. k < (V.Visitor.fixed visitor.old).0) groups.now }
-    requires bits { first + length groups.now ≤ 8 * length bits.now }
-    requires rows { Within (option_map (λ x. x.now) mask) start (length groups.now) }
-    ensures told { V.Visitor.model visitor.new ≡ told_all V.Visitor.after (V.Visitor.model visitor.old) (visits groups.now (boolean_cells bits.now first (option_map (λ x. x.now) mask.entry) start (length groups.now)) (let_through None (length groups.now))) }
-    ensures same { V.Visitor.fixed visitor.new ≡ V.Visitor.fixed visitor.old }
-    ensures fits { AllByRecursion (λ v. V.Visitor.fit v.1) (visits groups.now (boolean_cells bits.now first (option_map (λ x. x.now) mask.entry) start (length groups.now)) (let_through None (length groups.now))) }
-{
-    for (j, group) in groups.iter().enumerate() {
-        if valid(mask, start, j) {
-            visitor.visit(*group, bit(bits, first, j));
-        }
-    }
-}
-
-fn walk_bits_passed<V: Visitor<bool>>(
-    groups: &[usize],
-    bits: &[u8],
-    first: usize,
-    yes: &[u8],
-    at: usize,
-    known: Option<&[u8]>,
-    from: usize,
-    visitor: &mut V,
-)
-    requires named { AllByRecursion (λ k. k < (V.Visitor.fixed visitor.old).0) groups.now }
-    requires bits { first + length groups.now ≤ 8 * length bits.now }
-    requires yes { at + length groups.now ≤ 8 * length yes.now }
-    requires known { Within (option_map (λ x. x.now) known) from (length groups.now) }
-    ensures told { V.Visitor.model visitor.new ≡ told_all V.Visitor.after (V.Visitor.model visitor.old) (visits groups.now (boolean_cells bits.now first None 0 (length groups.now)) (let_through (ticks_of (Some yes.now) at (option_map (λ x. x.now) known.entry) from (length groups.now)) (length groups.now))) }
-    ensures same { V.Visitor.fixed visitor.new ≡ V.Visitor.fixed visitor.old }
-    ensures fits { AllByRecursion (λ v. V.Visitor.fit v.1) (visits groups.now (boolean_cells bits.now first None 0 (length groups.now)) (let_through (ticks_of (Some yes.now) at (option_map (λ x. x.now) known.entry) from (length groups.now)) (length groups.now))) }
-{
-    for (j, group) in groups.iter().enumerate() {
-        if passes(yes, at, known, from, j) {
-            visitor.visit(*group, bit(bits, first, j));
-        }
-    }
-}
-
-fn walk_bits_both<V: Visitor<bool>>(
-    groups: &[usize],
-    bits: &[u8],
-    first: usize,
-    mask: Option<&[u8]>,
-    start: usize,
-    yes: &[u8],
-    at: usize,
-    known: Option<&[u8]>,
-    from: usize,
-    visitor: &mut V,
-)
-    requires named { AllByRecursion (λ k. k < (V.Visitor.fixed visitor.old).0) groups.now }
-    requires bits { first + length groups.now ≤ 8 * length bits.now }
-    requires rows { Within (option_map (λ x. x.now) mask) start (length groups.now) }
-    requires yes { at + length groups.now ≤ 8 * length yes.now }
-    requires known { Within (option_map (λ x. x.now) known) from (length groups.now) }
-    ensures told { V.Visitor.model visitor.new ≡ told_all V.Visitor.after (V.Visitor.model visitor.old) (visits groups.now (boolean_cells bits.now first (option_map (λ x. x.now) mask.entry) start (length groups.now)) (let_through (ticks_of (Some yes.now) at (option_map (λ x. x.now) known.entry) from (length groups.now)) (length groups.now))) }
-    ensures same { V.Visitor.fixed visitor.new ≡ V.Visitor.fixed visitor.old }
-    ensures fits { AllByRecursion (λ v. V.Visitor.fit v.1) (visits groups.now (boolean_cells bits.now first (option_map (λ x. x.now) mask.entry) start (length groups.now)) (let_through (ticks_of (Some yes.now) at (option_map (λ x. x.now) known.entry) from (length groups.now)) (length groups.now))) }
-{
-    for (j, group) in groups.iter().enumerate() {
-        if valid(mask, start, j) && passes(yes, at, known, from, j) {
-            visitor.visit(*group, bit(bits, first, j));
-        }
-    }
-}
-
 /// The same over packed booleans.
+// A twin of its own, with its own match: the Rust has both functions, and both names and forms are carried over.
 pub fn accumulate_boolean<V: Visitor<bool>>(
     group_indices: &[usize],
     values: &BooleanColumn<'_>,
     opt_filter: &Filter<'_>,
     visitor: &mut V,
 )
-    requires even { length group_indices.now ≡ length (boolean_cells values.now.bytes.now values.now.start (option_map (λ x. x.now) values.now.mask) values.now.from values.now.len) }
+    requires even { length group_indices.now ≡ length (cells_under values.now.validity (unpacked values.now.values.slots.now values.now.values.start values.now.values.len)) }
     requires named { AllByRecursion (λ k. k < (V.Visitor.fixed visitor.old).0) group_indices.now }
     requires ticked { IfSome (ticks opt_filter.now) (λ ts. length ts ≡ length group_indices.now) }
-    ensures told { V.Visitor.model visitor.new ≡ told_all V.Visitor.after (V.Visitor.model visitor.old) (visits group_indices.now (boolean_cells values.now.bytes.now values.now.start (option_map (λ x. x.now) values.now.mask) values.now.from values.now.len) (let_through (ticks opt_filter.now) (length group_indices.now))) }
+    ensures told { V.Visitor.model visitor.new ≡ told_all V.Visitor.after (V.Visitor.model visitor.old) (visits group_indices.now (cells_under values.now.validity (unpacked values.now.values.slots.now values.now.values.start values.now.values.len)) (let_through (ticks opt_filter.now) (length group_indices.now))) }
     ensures same { V.Visitor.fixed visitor.new ≡ V.Visitor.fixed visitor.old }
-    ensures fits { AllByRecursion (λ v. V.Visitor.fit v.1) (visits group_indices.now (boolean_cells values.now.bytes.now values.now.start (option_map (λ x. x.now) values.now.mask) values.now.from values.now.len) (let_through (ticks opt_filter.now) (length group_indices.now))) }
+    ensures fits { AllByRecursion (λ v. V.Visitor.fit v.1) (visits group_indices.now (cells_under values.now.validity (unpacked values.now.values.slots.now values.now.values.start values.now.values.len)) (let_through (ticks opt_filter.now) (length group_indices.now))) }
 {
-    let bits = values.bytes;
-    let first = values.start;
-    let mask = values.mask;
-    let start = values.from;
+    let bits = &values.values;
+    let known = &values.validity;
     let at = opt_filter.start;
-    let known = opt_filter.mask;
-    let from = opt_filter.from;
+    let ticked = &opt_filter.validity;
     match (values.nulls, opt_filter.values) {
-        (n, None) if n == 0 => walk_bits_all(group_indices, bits, first, visitor),
-        (_, None) => walk_bits_valid(group_indices, bits, first, mask, start, visitor),
-        (n, Some(yes)) if n == 0 => walk_bits_passed(
+        (n, None) if n == 0 => walk(group_indices, bits, |_| true, |_| true, visitor),
+        (_, None) => walk(group_indices, bits, |j| known.valid(j), |_| true, visitor),
+        (n, Some(yes)) if n == 0 => walk(
             group_indices,
             bits,
-            first,
-            yes,
-            at,
-            known,
-            from,
+            |_| true,
+            |j| passes(yes, at, ticked, j),
             visitor,
         ),
-        (_, Some(yes)) => walk_bits_both(
+        (_, Some(yes)) => walk(
             group_indices,
             bits,
-            first,
-            mask,
-            start,
-            yes,
-            at,
-            known,
-            from,
+            |j| known.valid(j),
+            |j| passes(yes, at, ticked, j),
             visitor,
         ),
     }

@@ -1,4 +1,3 @@
 #![tactic(auto)]
 
 pub mod accumulate;
-pub mod columns;

@@ -1,99 +1,129 @@
-use Rattle.std.proofs.Common.{ℕ, Bool, length, sym, refl, ap, ◌∙◌, subst, arith}
+use Rattle.std.proofs.Common.{sym, refl, ap, ◌∙◌, arith, rules}
 use Rattle.std.specs.Option.{option_map}
-use Rattle.std.specs.List.{AllByRecursion}
-use Rattle.columnar.specs.Rows.{boolean_cells}
-use Rattle.columnar.proofs.CellRows.{length_booleans}
-use Rattle.walk.specs.Visits.{told_all}
-use Rattle.walk.proofs.Plain.{plain_booleans, same_visits}
-use Rattle.walk.proofs.Ticked.{ticked_length, within_some, within_same}
+use Rattle.columnar.specs.Rows.{valid_at}
+use Rattle.columnar.proofs.CellRows.{length_cells}
+use Rattle.columnar.specs.Packings.{length_packed}
+use Rattle.walk.proofs.Tests.{plain_cells, none_passes, some_passes, tick_count, some_within, told_rows, fits_rows}
 use Rattle.walk.proofs.accumulate.accumulate_boolean.Goals as goal
 
-pub walk_bits_all-requires : goal.walk_bits_all-requires
-walk_bits_all-requires g c =
-    let k = c.args.values.now in
-    let even = c.requires.even ∙ length_booleans _ _ _ _ k.len in
-    record { named = c.requires.named; bits = omega (arith, even) }
+pub walk-requires-clause-even : goal.walk-requires-clause-even
+walk-requires-clause-even g c =
+    let v = c.args.values.now.values in
+    c.requires.even ∙ sym (length_cells _ v.len (length_packed v.slots.now v.start v.len v.fits) _)
 
-pub walk_bits_valid-requires : goal.walk_bits_valid-requires
-walk_bits_valid-requires g c =
-    let k = c.args.values.now in
-    let even = c.requires.even ∙ length_booleans _ _ _ _ k.len in
-    record { named = c.requires.named; bits = omega (arith, even); rows = within_same (option_map (λ x. x.now) k.mask) k.from (sym even) k.masked }
+pub walk-requires-in_default-None-2-clause-even : goal.walk-requires-in_default-None-2-clause-even
+walk-requires-in_default-None-2-clause-even g c =
+    let v = c.args.values.now.values in
+    c.requires.even ∙ sym (length_cells _ v.len (length_packed v.slots.now v.start v.len v.fits) _)
 
-pub walk_bits_passed-requires : goal.walk_bits_passed-requires
-walk_bits_passed-requires g c =
+pub walk-requires-in_default-Some-clause-even : goal.walk-requires-in_default-Some-clause-even
+walk-requires-in_default-Some-clause-even g c =
+    let v = c.args.values.now.values in
+    c.requires.even ∙ sym (length_cells _ v.len (length_packed v.slots.now v.start v.len v.fits) _)
+
+pub walk-requires-in_default-Some-2-clause-even : goal.walk-requires-in_default-Some-2-clause-even
+walk-requires-in_default-Some-2-clause-even g c =
+    let v = c.args.values.now.values in
+    c.requires.even ∙ sym (length_cells _ v.len (length_packed v.slots.now v.start v.len v.fits) _)
+
+pub walk-requires-in_default-None-2-clause-valid : goal.walk-requires-in_default-None-2-clause-valid
+walk-requires-in_default-None-2-clause-valid g c j h _ _ _ _ _ =
     let k = c.args.values.now in
+    let v = k.values in
+    omega (arith, h, c.requires.even, length_cells _ v.len (length_packed v.slots.now v.start v.len v.fits) (valid_at (option_map (λ x. x.now) k.validity.mask) k.validity.start), k.even)
+
+pub walk-requires-in_default-Some-2-clause-valid : goal.walk-requires-in_default-Some-2-clause-valid
+walk-requires-in_default-Some-2-clause-valid g c j h _ _ _ _ _ =
+    let k = c.args.values.now in
+    let v = k.values in
+    omega (arith, h, c.requires.even, length_cells _ v.len (length_packed v.slots.now v.start v.len v.fits) (valid_at (option_map (λ x. x.now) k.validity.mask) k.validity.start), k.even)
+
+pub walk-requires-in_default-Some-clause-passes : goal.walk-requires-in_default-Some-clause-passes
+walk-requires-in_default-Some-clause-passes g c j h _ _ _ _ _ _ _ _ =
     let f = c.args.opt_filter.now in
-    let even = c.requires.even ∙ length_booleans _ _ _ _ k.len in
+    let known = option_map (λ x. x.now) f.validity.mask in
     let given = ap (option_map (λ x. x.now)) c.in_default-Some.is-1 in
-    let long = ticked_length (option_map (λ x. x.now) f.values) f.start (option_map (λ x. x.now) f.mask) f.from f.len (length c.args.group_indices.now) given c.requires.ticked in
-    record { named = c.requires.named; bits = omega (arith, even); yes = within_some (option_map (λ x. x.now) f.values) f.start given long f.fits; known = within_same (option_map (λ x. x.now) f.mask) f.from long f.masked }
+    let count = tick_count _ f.start known f.validity.start f.validity.len _ given c.requires.ticked in
+    let within = some_within _ f.start known f.validity.start f.validity.len _ given c.requires.ticked f.fits in
+    (omega (arith, h, within), omega (arith, h, count))
 
-pub walk_bits_both-requires : goal.walk_bits_both-requires
-walk_bits_both-requires g c =
-    let k = c.args.values.now in
+pub walk-requires-in_default-Some-2-clause-passes : goal.walk-requires-in_default-Some-2-clause-passes
+walk-requires-in_default-Some-2-clause-passes g c j h _ _ _ _ _ _ _ _ =
     let f = c.args.opt_filter.now in
-    let even = c.requires.even ∙ length_booleans _ _ _ _ k.len in
+    let known = option_map (λ x. x.now) f.validity.mask in
     let given = ap (option_map (λ x. x.now)) c.in_default-Some.is-1 in
-    let long = ticked_length (option_map (λ x. x.now) f.values) f.start (option_map (λ x. x.now) f.mask) f.from f.len (length c.args.group_indices.now) given c.requires.ticked in
-    record { named = c.requires.named; bits = omega (arith, even); rows = within_same (option_map (λ x. x.now) k.mask) k.from (sym even) k.masked; yes = within_some (option_map (λ x. x.now) f.values) f.start given long f.fits; known = within_same (option_map (λ x. x.now) f.mask) f.from long f.masked }
+    let count = tick_count _ f.start known f.validity.start f.validity.len _ given c.requires.ticked in
+    let within = some_within _ f.start known f.validity.start f.validity.len _ given c.requires.ticked f.fits in
+    (omega (arith, h, within), omega (arith, h, count))
 
-pub returns-in_default-None : goal.returns-in_default-None
-returns-in_default-None g c =
-    let v = g.V.Visitor in
-    let gs = c.args.group_indices.now in
+pub returns-in_default-None-clause-told : goal.returns-in_default-None-clause-told
+returns-in_default-None-clause-told g c =
+    let w = g.V.Visitor in
     let k = c.args.values.now in
-    let even = c.requires.even ∙ length_booleans _ _ _ _ k.len in
     let f = c.args.opt_filter.now in
-    let same = same_visits gs f.start (option_map (λ x. x.now) f.mask) f.from {n = f.len} (length gs) (plain_booleans k.bytes.now k.start (option_map (λ x. x.now) k.mask) k.from k.len (sym k.counted ∙ c.if-n-eq0.true) even) (sym (ap (option_map (λ x. x.now)) c.in_default-None.is-1)) refl in
-    record {
-      told = c.walk_bits_all.ensures.told ∙ ap (told_all v.after (v.model c.args.visitor.now)) same;
-      same = c.walk_bits_all.ensures.same;
-      fits = subst (AllByRecursion (λ (y : ℕ × Bool). v.fit y.1)) same c.walk_bits_all.ensures.fits;
-    }
+    let through = none_passes _ f.start (option_map (λ x. x.now) f.validity.mask) f.validity.start f.validity.len _ (ap (option_map (λ x. x.now)) c.in_default-None.is-1) in
+    told_rows c.args.group_indices.now (plain_cells _ _ (sym k.counted ∙ c.if-n-eq0.true)) through w.after (w.model c.args.visitor.now) (c.walk.ensures.told _ _ (λ j b h e. search rules) (λ j b h e. search rules))
 
-pub returns-in_default-None-2 : goal.returns-in_default-None-2
-returns-in_default-None-2 g c =
-    let v = g.V.Visitor in
-    let gs = c.args.group_indices.now in
+pub returns-in_default-None-clause-fits : goal.returns-in_default-None-clause-fits
+returns-in_default-None-clause-fits g c =
+    let w = g.V.Visitor in
     let k = c.args.values.now in
-    let even = c.requires.even ∙ length_booleans _ _ _ _ k.len in
     let f = c.args.opt_filter.now in
-    let same = same_visits gs f.start (option_map (λ x. x.now) f.mask) f.from {n = f.len} (length gs) (ap (boolean_cells k.bytes.now k.start (option_map (λ x. x.now) k.mask) k.from) even) (sym (ap (option_map (λ x. x.now)) c.in_default-None-2.is-1)) refl in
-    record {
-      told = c.walk_bits_valid.ensures.told ∙ ap (told_all v.after (v.model c.args.visitor.now)) same;
-      same = c.walk_bits_valid.ensures.same;
-      fits = subst (AllByRecursion (λ (y : ℕ × Bool). v.fit y.1)) same c.walk_bits_valid.ensures.fits;
-    }
+    let through = none_passes _ f.start (option_map (λ x. x.now) f.validity.mask) f.validity.start f.validity.len _ (ap (option_map (λ x. x.now)) c.in_default-None.is-1) in
+    fits_rows c.args.group_indices.now (plain_cells _ _ (sym k.counted ∙ c.if-n-eq0.true)) through w.fit (c.walk.ensures.fits _ _ (λ j b h e. search rules) (λ j b h e. search rules))
 
-pub returns-in_default-Some : goal.returns-in_default-Some
-returns-in_default-Some g c =
-    let v = g.V.Visitor in
-    let gs = c.args.group_indices.now in
+pub returns-in_default-None-2-clause-told : goal.returns-in_default-None-2-clause-told
+returns-in_default-None-2-clause-told g c =
+    let w = g.V.Visitor in
     let k = c.args.values.now in
-    let even = c.requires.even ∙ length_booleans _ _ _ _ k.len in
     let f = c.args.opt_filter.now in
+    let through = none_passes _ f.start (option_map (λ x. x.now) f.validity.mask) f.validity.start f.validity.len _ (ap (option_map (λ x. x.now)) c.in_default-None-2.is-1) in
+    told_rows c.args.group_indices.now (refl) through w.after (w.model c.args.visitor.now) (c.walk-in_default-None-2.ensures.told _ _ (λ j b h e. search rules) (λ j b h e. search rules))
+
+pub returns-in_default-None-2-clause-fits : goal.returns-in_default-None-2-clause-fits
+returns-in_default-None-2-clause-fits g c =
+    let w = g.V.Visitor in
+    let k = c.args.values.now in
+    let f = c.args.opt_filter.now in
+    let through = none_passes _ f.start (option_map (λ x. x.now) f.validity.mask) f.validity.start f.validity.len _ (ap (option_map (λ x. x.now)) c.in_default-None-2.is-1) in
+    fits_rows c.args.group_indices.now (refl) through w.fit (c.walk-in_default-None-2.ensures.fits _ _ (λ j b h e. search rules) (λ j b h e. search rules))
+
+pub returns-in_default-Some-clause-told : goal.returns-in_default-Some-clause-told
+returns-in_default-Some-clause-told g c =
+    let w = g.V.Visitor in
+    let k = c.args.values.now in
+    let f = c.args.opt_filter.now in
+    let known = option_map (λ x. x.now) f.validity.mask in
     let given = ap (option_map (λ x. x.now)) c.in_default-Some.is-1 in
-    let long = ticked_length (option_map (λ x. x.now) f.values) f.start (option_map (λ x. x.now) f.mask) f.from f.len (length gs) given c.requires.ticked in
-    let same = same_visits gs f.start (option_map (λ x. x.now) f.mask) f.from (length gs) (plain_booleans k.bytes.now k.start (option_map (λ x. x.now) k.mask) k.from k.len (sym k.counted ∙ c.if-n-eq0-2.true) even) (sym given) (sym long) in
-    record {
-      told = c.walk_bits_passed.ensures.told ∙ ap (told_all v.after (v.model c.args.visitor.now)) same;
-      same = c.walk_bits_passed.ensures.same;
-      fits = subst (AllByRecursion (λ (y : ℕ × Bool). v.fit y.1)) same c.walk_bits_passed.ensures.fits;
-    }
+    let through = some_passes _ f.start known f.validity.start f.validity.len _ given c.requires.ticked in
+    told_rows c.args.group_indices.now (plain_cells _ _ (sym k.counted ∙ c.if-n-eq0-2.true)) through w.after (w.model c.args.visitor.now) (c.walk-in_default-Some.ensures.told _ _ (λ j b h e. search rules) (λ j b h e. search rules))
 
-pub returns-in_default-Some-2 : goal.returns-in_default-Some-2
-returns-in_default-Some-2 g c =
-    let v = g.V.Visitor in
-    let gs = c.args.group_indices.now in
+pub returns-in_default-Some-clause-fits : goal.returns-in_default-Some-clause-fits
+returns-in_default-Some-clause-fits g c =
+    let w = g.V.Visitor in
     let k = c.args.values.now in
-    let even = c.requires.even ∙ length_booleans _ _ _ _ k.len in
     let f = c.args.opt_filter.now in
+    let known = option_map (λ x. x.now) f.validity.mask in
     let given = ap (option_map (λ x. x.now)) c.in_default-Some.is-1 in
-    let long = ticked_length (option_map (λ x. x.now) f.values) f.start (option_map (λ x. x.now) f.mask) f.from f.len (length gs) given c.requires.ticked in
-    let same = same_visits gs f.start (option_map (λ x. x.now) f.mask) f.from (length gs) (ap (boolean_cells k.bytes.now k.start (option_map (λ x. x.now) k.mask) k.from) even) (sym given) (sym long) in
-    record {
-      told = c.walk_bits_both.ensures.told ∙ ap (told_all v.after (v.model c.args.visitor.now)) same;
-      same = c.walk_bits_both.ensures.same;
-      fits = subst (AllByRecursion (λ (y : ℕ × Bool). v.fit y.1)) same c.walk_bits_both.ensures.fits;
-    }
+    let through = some_passes _ f.start known f.validity.start f.validity.len _ given c.requires.ticked in
+    fits_rows c.args.group_indices.now (plain_cells _ _ (sym k.counted ∙ c.if-n-eq0-2.true)) through w.fit (c.walk-in_default-Some.ensures.fits _ _ (λ j b h e. search rules) (λ j b h e. search rules))
+
+pub returns-in_default-Some-2-clause-told : goal.returns-in_default-Some-2-clause-told
+returns-in_default-Some-2-clause-told g c =
+    let w = g.V.Visitor in
+    let k = c.args.values.now in
+    let f = c.args.opt_filter.now in
+    let known = option_map (λ x. x.now) f.validity.mask in
+    let given = ap (option_map (λ x. x.now)) c.in_default-Some.is-1 in
+    let through = some_passes _ f.start known f.validity.start f.validity.len _ given c.requires.ticked in
+    told_rows c.args.group_indices.now (refl) through w.after (w.model c.args.visitor.now) (c.walk-in_default-Some-2.ensures.told _ _ (λ j b h e. search rules) (λ j b h e. search rules))
+
+pub returns-in_default-Some-2-clause-fits : goal.returns-in_default-Some-2-clause-fits
+returns-in_default-Some-2-clause-fits g c =
+    let w = g.V.Visitor in
+    let k = c.args.values.now in
+    let f = c.args.opt_filter.now in
+    let known = option_map (λ x. x.now) f.validity.mask in
+    let given = ap (option_map (λ x. x.now)) c.in_default-Some.is-1 in
+    let through = some_passes _ f.start known f.validity.start f.validity.len _ given c.requires.ticked in
+    fits_rows c.args.group_indices.now (refl) through w.fit (c.walk-in_default-Some-2.ensures.fits _ _ (λ j b h e. search rules) (λ j b h e. search rules))

@@ -1,9 +1,0 @@
-use Rattle.std.proofs.Common.{◌≡◌, true, length}
-use Rattle.columnar.specs.Packed.{unpacked}
-use Rattle.walk.proofs.Walks.{WalkedRows}
-use Rattle.walk.proofs.accumulate.walk_bits_all.Given as goal
-
-abbrev pub invariant-loop-j : goal.invariant-loop-j
-invariant-loop-j g l =
-    let v = g.V.Visitor in
-    (v.fixed l.visitor ≡ v.fixed l.initial.visitor) × WalkedRows v.after v.fit (λ _. true) (λ _. true) l.groups (unpacked l.bits l.first (length l.groups)) (v.model l.initial.visitor) (v.model l.visitor) l.j
