@@ -1,6 +1,6 @@
 -- A loop that writes one list over the front of another.
-use Rattle.std.proofs.Common.{◌≡◌, ℕ, ◌+◌, ◌-◌, ◌<◌, ◌≤◌, List, [], ◌∷◌, ◌++◌, length, get_or, take, drop, set, sym, ap, ◌∙◌, arith}
-use Rattle.std.proofs.lemmas.List.{append_assoc, length-take-le, set-append_right, drop_more, take_more, take_all}
+use Rattle.std.proofs.Common.{◌≡◌, ℕ, ◌+◌, ◌-◌, ◌<◌, ◌≤◌, List, [], ◌∷◌, ◌++◌, length, get_or, take, drop, set, sym, ap, ap₂, ◌∙◌, arith}
+use Rattle.std.proofs.lemmas.List.{append_assoc, length-take-le, set-append_right, drop_more, take_more, take_all, drop_all, append-nil}
 use Rattle.buffers.specs.Memory.{front}
 
 -- the first n places of a list, over those of another
@@ -20,11 +20,10 @@ over_more xs ys now i x h l read e =
     ∙ ap (λ zs. zs ++ drop (i + 1) ys) (ap (λ y. take i xs ++ y ∷ []) read ∙ sym (take_more xs i x h))
 
 -- all of it
-pub over_all : {X : Type 0} (xs ys now : List X) (i : ℕ) → i ≡ length xs → now ≡ over_front xs ys i → now ≡ front xs ys
-over_all xs ys now i h e = e ∙ ap (over_front xs ys) h ∙ ap (λ zs. zs ++ drop (length xs) ys) (take_all (length xs) xs (omega arith))
+pub over_all : {X : Type 0} (xs ys now : List X) (i : ℕ) → length ys ≡ length xs → length xs ≤ i → now ≡ over_front xs ys i → now ≡ xs
+over_all xs ys now i e h is = is ∙ ap₂ (λ a b. a ++ b) (take_all i xs h) (drop_all i ys (omega arith)) ∙ append-nil xs
 
--- its first n places
-pub over_first : {X : Type 0} (xs ys now : List X) (i n : ℕ) → n ≤ length xs → i ≡ n → now ≡ over_front xs ys i → now ≡ front (take n xs) ys
-over_first xs ys now i n h same e =
-    let l : n ≡ length (take n xs) = sym (length-take-le n xs h) in
-    e ∙ ap (over_front xs ys) same ∙ ap (λ m. take n xs ++ drop m ys) l
+-- in a part of a slice, before what is left of it
+pub over_part : {X : Type 0} (xs ys now after : List X) (n k i : ℕ) → length ys ≡ n → length xs ≡ n → k ≡ n → n ≤ i → now ≡ over_front xs ys i → now ++ drop k after ≡ front xs after
+over_part xs ys now after n k i e same whole h is =
+    ap (λ zs. zs ++ drop k after) (over_all xs ys now i (e ∙ sym same) (omega arith) is) ∙ ap (λ m. xs ++ drop m after) (whole ∙ sym same)

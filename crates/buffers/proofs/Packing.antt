@@ -1,13 +1,11 @@
 -- Packing: a byte made bit by bit, how it grows and that it stays a byte, and the bytes of a list of bits.
-use Rattle.std.proofs.Common.{◌≡◌, ℕ, zero, suc, ◌+◌, ◌-◌, ◌*◌, ◌%◌, ◌^◌, ◌<◌, ◌≤◌, Bool, true, false, cond, List, length, get_or, set, sum_by, sym, ap, ◌∙◌, ⊎_elim, add-zero, pow-suc, zero-add, add-one, arith, pow_mono}
+use Rattle.std.proofs.Common.{◌≡◌, ℕ, zero, suc, ◌+◌, ◌-◌, ◌*◌, ◌%◌, ◌^◌, ◌<◌, ◌≤◌, Bool, true, false, cond, List, length, get_or, sum_by, sym, ap, ◌∙◌, ⊎_elim, add-zero, pow-suc, zero-add, add-one, arith, pow_mono}
 use Rattle.std.specs.List.{range_with_len}
 use Rattle.std.proofs.lemmas.List.{map-id, get_or_past}
 use Rattle.std.proofs.lemmas.Nat.{one_shl}
 use Rattle.std.proofs.lemmas.List.FromFn.{sum_by-map-range_with_len_more, length-map-range_with_len, get_or-map-range_with_len}
 use Rattle.std.proofs.lemmas.Bool.{cases_lt}
-use Rattle.buffers.specs.Memory.{front}
 use Rattle.columnar.specs.Packed.{bytes_for, byte_up_to, byte_at, packed}
-use Rattle.buffers.proofs.Fronts.{over_front, over_more, over_all}
 
 pub up_to_more : (bits : List Bool) (k m : ℕ) → byte_up_to bits k (m + 1) ≡ byte_up_to bits k m + cond (get_or bits (8 * k + m) false) (2 ^ m) 0
 up_to_more bits k m =
@@ -71,9 +69,5 @@ length_packed bits n e = length-map-range_with_len (byte_at bits) 0 (bytes_for (
 pub get_d_packed : (bits : List Bool) (n k d : ℕ) → length bits ≡ n → k < bytes_for n → get_or (packed bits) k d ≡ byte_at bits k
 get_d_packed bits n k d e h = get_or-map-range_with_len (byte_at bits) 0 (bytes_for (length bits)) k k d (rw e h) (zero-add k)
 
-pub byte_more : (bits : List Bool) (old out : List ℕ) (n k b : ℕ) → length bits ≡ n → k < bytes_for n → bytes_for n ≤ length old → b ≡ byte_at bits k → out ≡ over_front (packed bits) old k → set out k b ≡ over_front (packed bits) old (k + 1)
-byte_more bits old out n k b e h room is inv =
-    over_more (packed bits) old out k b (omega (arith, length_packed bits n e)) (omega arith) (is ∙ sym (get_d_packed bits n k b e h)) inv
-
-pub bytes_all : (bits : List Bool) (old out : List ℕ) (n k : ℕ) → length bits ≡ n → k ≡ bytes_for n → out ≡ over_front (packed bits) old k → out ≡ front (packed bits) old
-bytes_all bits old out n k e end inv = over_all (packed bits) old out k (end ∙ sym (length_packed bits n e)) inv
+pub packed_makes : (bits : List Bool) (n j x : ℕ) → length bits ≡ n → j < length (packed bits) → x ≡ byte_at bits j → x ≡ get_or (packed bits) j x
+packed_makes bits n j x e h is = is ∙ sym (get_d_packed bits n j x e (omega (arith, length_packed bits n e)))

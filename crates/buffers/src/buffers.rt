@@ -1,18 +1,17 @@
 ghost use Rattle.std.specs.Prelude.{◌≡◌, ℕ, ◌*◌, ◌≤◌, Bool, false, not, ◌&&◌, ◌||◌, List, length, take, if◌then◌else◌, Some, None, Option, nat_lt};
-ghost use Rattle.std.specs.Option.{option_map};
 ghost use Rattle.columnar.specs.Cells.{Column, cells, passes, kept_rows};
-ghost use Rattle.columnar.specs.Rows.{column_cells, boolean_cells};
 ghost use Rattle.columnar.specs.Packed.{bytes_for};
-ghost use Rattle.buffers.specs.Memory.{Laid, Room, Layout, front, values_layout, packed_layout, stored_mask, stored_values, stored_packed, flat_column, stored, mask_after, Shaped, short, held_values, held_packed, readable_values, readable_packed, room_of};
-ghost use Rattle.columnar.specs.Views.{ticks};
+ghost use Rattle.buffers.specs.Memory.{Laid, Room, Layout, flat_layout, stored_mask, stored_slots, flat_column, stored, mask_after, Shaped, short, held_items, readable_items, room_of};
+ghost use Rattle.columnar.specs.Views.{cells_under, ticks};
 
 use crate::admitted::{AdmittedFigures, AdmittedMarks};
 use crate::pack::{bytes_for, write_bits};
 use crate::source::Source;
-use columnar::boolean::BooleanColumn;
-use columnar::column::PrimitiveColumn;
+use crate::writable::Writable;
+use columnar::column::FlatColumn;
 use columnar::filter::Filter;
-use columnar::mask::Mask;
+use columnar::items::{Items, Mask};
+use columnar::packing::{Packed, Plain};
 use columnar::rows::{FlatRows, Rows};
 use std::marker::PhantomData;
 
@@ -92,48 +91,38 @@ fn has_room(figures: usize, places: usize, bits: usize, bytes: usize, masked: bo
     places <= figures && (!masked || bytes <= bits)
 }
 
-/// Buffers for a value a row and a mask.
+/// Buffers for a figure a row and a mask, over lent memory: how long the answer in them is, and whether it has a mask.
+// The memory is lent and may be longer than the answer, so that its length stands beside it.
 #[derive(Drop)]
-pub struct PrimitiveBuffers<'b, T> {
-    pub values: &'b mut [T],
+pub struct ColumnBuffers<'b, L: Writable> {
+    pub values: &'b mut [L::Slot],
     pub bits: &'b mut [u8],
     pub len: usize,
     pub masked: bool,
 }
 
-impl<'b, T> Buffers<T> for PrimitiveBuffers<'b, T> {
-    ghost Memory = { Laid T };
+/// Buffers for a value a row and a mask.
+pub type PrimitiveBuffers<'b, T> = ColumnBuffers<'b, Plain<T>>;
+
+/// Buffers for packed booleans and a mask.
+pub type BooleanBuffers<'b> = ColumnBuffers<'b, Packed>;
+
+impl<'b, L: Writable> Buffers<L::Item> for ColumnBuffers<'b, L> {
+    ghost Memory = { Laid L.Slot };
 
     ghost memory = { λ b. record { figures = b.values.now; bits = b.bits.now; rows = b.len; masked = b.masked } };
 
-    ghost layout = { values_layout };
+    ghost layout = { flat_layout L.places };
 
     ghost room = { room_of };
 
     ghost masks = { stored_mask };
 
-    ghost figures = { stored_values };
+    ghost figures = { stored_slots L.laid };
 
-    ghost held = { held_values };
+    ghost held = { held_items L.Packing.items };
 
-    ghost readable = { readable_values };
-}
-
-impl<'b, T> PrimitiveBuffers<'b, T> {
-    /// Buffers over the lent memory, with no answer in them yet.
-    pub fn new(values: &'b mut [T], bits: &'b mut [u8]) -> PrimitiveBuffers<'b, T>
-        ensures values { result.values.now ≡ values.old }
-        ensures bits { result.bits.now ≡ bits.old }
-        ensures len { result.len ≡ 0 }
-        ensures masked { result.masked ≡ false }
-    {
-        PrimitiveBuffers {
-            values,
-            bits,
-            len: 0,
-            masked: false,
-        }
-    }
+    ghost readable = { readable_items L.Packing.holds L.Packing.items };
 }
 
 /// The number of rows, or 0 where so many cannot be read back: one would lack its figure or, under a mask, its bit.
@@ -147,24 +136,6 @@ fn readable_rows(lacking: bool, bytes: usize, masked: bool, rows: usize) -> usiz
     rows
 }
 
-impl<'b, T: Copy> PrimitiveBuffers<'b, T> {
-    /// The column that lies in the buffers: what an answer has left in them, or no rows where they cannot be read.
-    pub fn column(&self) -> PrimitiveColumn<'_, T>
-        ensures { column_cells (option_map (λ x. x.now) result.mask) result.start result.values.now ≡ cells (readable_values (record { figures = self.now.values.now; bits = self.now.bits.now; rows = self.now.len; masked = self.now.masked })) }
-    {
-        let values: &[T] = self.values;
-        let bits: &[u8] = self.bits;
-        let rows = readable_rows(self.len > values.len(), bits.len(), self.masked, self.len);
-        let front = &values[0..rows];
-        if !self.masked {
-            return PrimitiveColumn::plain(front);
-        }
-        let (_, mask) = Mask::new(bits, 0, rows);
-        let (_, column) = PrimitiveColumn::new(front, mask);
-        column
-    }
-}
-
 /// Packs the marks of the first n rows as a mask, or leaves the bytes as they are where there is to be none.
 fn write_mask<M: Source<bool>>(bits: &mut [u8], marks: &M, n: usize, masked: bool)
     requires within { n ≤ length (M.Source.items marks.now) }
@@ -176,110 +147,63 @@ fn write_mask<M: Source<bool>>(bits: &mut [u8], marks: &M, n: usize, masked: boo
     }
 }
 
-/// Copies the first n places; the places past them stay.
-fn copy_front<T: Copy, S: Source<T>>(from: &S, to: &mut [T], n: usize)
-    requires within { n ≤ length (S.Source.items from.now) }
-    requires room { n ≤ length to.old }
-    ensures { to.new ≡ front (take n (S.Source.items from.now)) to.old }
-{
-    for i in 0..n {
-        to[i] = from.get(i);
-    }
-}
-
-impl<'b, T: Copy> FlatBuffers<T> for PrimitiveBuffers<'b, T> {
-    fn fits(&self, rows: usize, masked: bool) -> bool {
-        has_room(
-            self.values.len(),
-            rows,
-            self.bits.len(),
-            bytes_for(rows),
-            masked,
-        )
-    }
-
-    fn put_from<V: Source<T>, M: Source<bool>>(
-        &mut self,
-        values: &V,
-        marks: &M,
-        rows: usize,
-        masked: bool,
-    ) {
-        write_mask(self.bits, marks, rows, masked);
-        copy_front(values, self.values, rows);
-        self.len = rows;
-        self.masked = masked;
-    }
-}
-
-/// Buffers for packed booleans and a mask.
-#[derive(Drop)]
-pub struct BooleanBuffers<'b> {
-    pub values: &'b mut [u8],
-    pub bits: &'b mut [u8],
-    pub len: usize,
-    pub masked: bool,
-}
-
-impl<'b> Buffers<bool> for BooleanBuffers<'b> {
-    ghost Memory = { Laid ℕ };
-
-    ghost memory = { λ b. record { figures = b.values.now; bits = b.bits.now; rows = b.len; masked = b.masked } };
-
-    ghost layout = { packed_layout };
-
-    ghost room = { room_of };
-
-    ghost masks = { stored_mask };
-
-    ghost figures = { stored_packed };
-
-    ghost held = { held_packed };
-
-    ghost readable = { readable_packed };
-}
-
-impl<'b> BooleanBuffers<'b> {
-    /// The column that lies in the buffers: what an answer has left in them, or no rows where they cannot be read.
-    pub fn column(&self) -> BooleanColumn<'_>
-        ensures { boolean_cells result.bytes.now result.start (option_map (λ x. x.now) result.mask) result.from result.len ≡ cells (readable_packed (record { figures = self.now.values.now; bits = self.now.bits.now; rows = self.now.len; masked = self.now.masked })) }
-    {
-        let bytes: &[u8] = self.values;
-        let bits: &[u8] = self.bits;
-        let lacking = self.len as u128 > 8 * (bytes.len() as u128);
-        let rows = readable_rows(lacking, bits.len(), self.masked, self.len);
-        let (_, values) = Mask::new(bytes, 0, rows);
-        if !self.masked {
-            return BooleanColumn::plain(values);
-        }
-        let (_, mask) = Mask::new(bits, 0, rows);
-        let (_, column) = BooleanColumn::new(values, mask);
-        column
-    }
-
+impl<'b, L: Writable> ColumnBuffers<'b, L> {
     /// Buffers over the lent memory, with no answer in them yet.
-    pub fn new(values: &'b mut [u8], bits: &'b mut [u8]) -> BooleanBuffers<'b>
+    pub fn new(values: &'b mut [L::Slot], bits: &'b mut [u8]) -> ColumnBuffers<'b, L>
         ensures values { result.values.now ≡ values.old }
         ensures bits { result.bits.now ≡ bits.old }
         ensures len { result.len ≡ 0 }
         ensures masked { result.masked ≡ false }
     {
-        BooleanBuffers {
+        ColumnBuffers {
             values,
             bits,
             len: 0,
             masked: false,
         }
     }
+
+    /// The column that lies in the buffers: what an answer has left in them, or no rows where they cannot be read.
+    pub fn column(&self) -> FlatColumn<'_, L>
+        ensures { cells_under result.validity (L.Packing.items result.values.slots.now result.values.start result.values.len) ≡ cells (readable_items L.Packing.holds L.Packing.items (record { figures = self.now.values.now; bits = self.now.bits.now; rows = self.now.len; masked = self.now.masked })) }
+    {
+        let slots: &[L::Slot] = self.values;
+        let bits: &[u8] = self.bits;
+        let len = readable_rows(
+            L::lacks(slots.len(), self.len),
+            bits.len(),
+            self.masked,
+            self.len,
+        );
+        let values: Items<'_, L> = Items {
+            slots,
+            start: 0,
+            len,
+        };
+        if !self.masked {
+            return FlatColumn::plain(values);
+        }
+        let mask: Mask<'_> = Items {
+            slots: bits,
+            start: 0,
+            len,
+        };
+        FlatColumn::new(values, mask).unwrap()
+    }
 }
 
-impl<'b> FlatBuffers<bool> for BooleanBuffers<'b> {
+impl<'b, L: Writable> FlatBuffers<L::Item> for ColumnBuffers<'b, L> {
     fn fits(&self, rows: usize, masked: bool) -> bool {
-        let bytes = bytes_for(rows);
-        has_room(self.values.len(), bytes, self.bits.len(), bytes, masked)
+        has_room(
+            self.values.len(),
+            L::places(rows),
+            self.bits.len(),
+            bytes_for(rows),
+            masked,
+        )
     }
 
-    fn put_from<V: Source<bool>, M: Source<bool>>(
+    fn put_from<V: Source<L::Item>, M: Source<bool>>(
         &mut self,
         values: &V,
         marks: &M,
@@ -287,7 +211,7 @@ impl<'b> FlatBuffers<bool> for BooleanBuffers<'b> {
         masked: bool,
     ) {
         write_mask(self.bits, marks, rows, masked);
-        write_bits(self.values, values, rows);
+        L::write(self.values, values, rows);
         self.len = rows;
         self.masked = masked;
     }

@@ -3,6 +3,7 @@ ghost use Rattle.columnar.specs.Packed.{bytes_for, byte_at, packed};
 ghost use Rattle.buffers.specs.Memory.{front};
 ghost use Rattle.buffers.specs.ReadBack.{WrittenReadsBack};
 
+use crate::front::write_front;
 use crate::source::Source;
 
 /// How many bytes n bits take, by parts, since n + 7 need not fit.
@@ -21,6 +22,7 @@ fn packed_byte<S: Source<bool>>(bits: &S, n: usize, k: usize) -> u8
     let from = 8 * k;
     let width = (n - from).min(8);
     let mut byte: u8 = 0;
+    // The loop's number is the bit's place and its weight: an iterator would have to carry both.
     for i in 0..width {
         if bits.get(from + i) {
             byte += 1 << i;
@@ -35,14 +37,10 @@ pub fn write_bits<S: Source<bool>>(out: &mut [u8], bits: &S, n: usize)
     requires room { bytes_for n ≤ length out.old }
     ensures { out.new ≡ front (packed (take n (S.Source.items bits.now))) out.old }
 {
-    for k in 0..bytes_for(n) {
-        out[k] = packed_byte(bits, n, k);
-    }
+    write_front(out, bytes_for(n), |k| packed_byte(bits, n, k));
 }
 
 /// States that what is written reads back: bits once packed, and columns laid down in buffers.
-pub fn written_reads_back<T>() -> u8
+pub fn written_reads_back<T>()
     ensures { WrittenReadsBack T }
-{
-    0
-}
+{}

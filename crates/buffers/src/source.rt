@@ -1,5 +1,8 @@
 ghost use Rattle.std.specs.Prelude.{◌≡◌, ◌<◌, List, length, slice_index_or};
 
+use columnar::items::Items;
+use columnar::packing::Packing;
+
 /// Items read by place, to write an answer from.
 pub trait Source<X> {
     ghost items: { Self → List X };
@@ -7,6 +10,15 @@ pub trait Source<X> {
     fn get(&self, j: usize) -> X
         requires { j < length (items self.now) }
         ensures { result ≡ slice_index_or (items self.now) j result };
+}
+
+/// Lent items, by place.
+impl<'a, L: Packing> Source<L::Item> for Items<'a, L> {
+    ghost items = { λ s. L.items s.slots.now s.start s.len };
+
+    fn get(&self, j: usize) -> L::Item {
+        Items::get(self, j)
+    }
 }
 
 impl<'a, X: Copy> Source<X> for &'a [X] {

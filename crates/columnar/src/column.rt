@@ -15,7 +15,7 @@ use crate::validity::Validity;
 use std::alloc::AllocError;
 
 /// Items, lent, and which of their rows are valid.
-pub struct Column<'a, L: Packing> {
+pub struct FlatColumn<'a, L: Packing> {
     pub values: Items<'a, L>,
     pub validity: Validity<'a>,
     pub nulls: usize,
@@ -24,30 +24,30 @@ pub struct Column<'a, L: Packing> {
 }
 
 // `Clone` cannot be derived for a generic struct with a ghost field.
-impl<'a, L: Packing> Clone for Column<'a, L> {
+impl<'a, L: Packing> Clone for FlatColumn<'a, L> {
     ghost is_clone = { λ old new. new ≡ old };
 
     ghost is_infallible = { λ _. ⊤ };
 
-    fn clone(&self) -> Result<Column<'a, L>, AllocError> {
+    fn clone(&self) -> Result<FlatColumn<'a, L>, AllocError> {
         Ok(*self)
     }
 }
 
-impl<'a, L: Packing> Copy for Column<'a, L> {}
+impl<'a, L: Packing> Copy for FlatColumn<'a, L> {}
 
 /// Values, lent, a slot for each.
-pub type PrimitiveColumn<'a, T> = Column<'a, Plain<T>>;
+pub type PrimitiveColumn<'a, T> = FlatColumn<'a, Plain<T>>;
 
 /// Packed booleans, lent.
-pub type BooleanColumn<'a> = Column<'a, Packed>;
+pub type BooleanColumn<'a> = FlatColumn<'a, Packed>;
 
-impl<'a, L: Packing> Column<'a, L> {
+impl<'a, L: Packing> FlatColumn<'a, L> {
     /// A column without a mask.
-    pub fn plain(values: Items<'a, L>) -> Column<'a, L>
+    pub fn plain(values: Items<'a, L>) -> FlatColumn<'a, L>
         ensures { cells_under result.validity (L.items result.values.slots.now result.values.start result.values.len) ≡ column_cells None 0 (L.items values.entry.slots.now values.entry.start values.entry.len) }
     {
-        Column {
+        FlatColumn {
             values,
             validity: Validity::all(values.len),
             nulls: 0,
@@ -55,7 +55,7 @@ impl<'a, L: Packing> Column<'a, L> {
     }
 
     /// A column with a mask, or a refusal where the two differ in length.
-    pub fn new(values: Items<'a, L>, mask: Mask<'a>) -> Result<Column<'a, L>, Refusal>
+    pub fn new(values: Items<'a, L>, mask: Mask<'a>) -> Result<FlatColumn<'a, L>, Refusal>
         ensures refused { result_err result ≡ lengths_refusal mask.entry.len values.entry.len }
         ensures shows { IfOk result (λ c. cells_under c.validity (L.items c.values.slots.now c.values.start c.values.len) ≡ column_cells (Some mask.entry.slots.now) mask.entry.start (L.items values.entry.slots.now values.entry.start values.entry.len)) }
     {
@@ -63,7 +63,7 @@ impl<'a, L: Packing> Column<'a, L> {
             return Err(Refusal::MaskLength);
         }
         let validity = Validity::from(mask);
-        Ok(Column {
+        Ok(FlatColumn {
             values,
             validity,
             nulls: validity.count_nulls(),
@@ -81,7 +81,7 @@ impl<'a, L: Packing> Column<'a, L> {
     }
 }
 
-impl<'a, L: Packing> Rows<L::Item> for Column<'a, L> {
+impl<'a, L: Packing> Rows<L::Item> for FlatColumn<'a, L> {
     ghost cells = { λ c. cells_under c.validity (L.items c.values.slots.now c.values.start c.values.len) };
 
     fn len(&self) -> usize {
@@ -93,7 +93,7 @@ impl<'a, L: Packing> Rows<L::Item> for Column<'a, L> {
     }
 }
 
-impl<'a, L: Packing> FlatRows<L::Item> for Column<'a, L> {
+impl<'a, L: Packing> FlatRows<L::Item> for FlatColumn<'a, L> {
     fn read(&self, j: usize) -> Option<L::Item> {
         if self.validity.valid(j) {
             return Some(self.values.get(j));

@@ -1,5 +1,4 @@
-ghost use Rattle.std.specs.Prelude.{◌≡◌, ℕ, ◌+◌, ◌*◌, ◌<◌, ◌≤◌, List, length, slice_index_or};
-ghost use Rattle.std.specs.List.{between};
+ghost use Rattle.std.specs.Prelude.{◌≡◌, ℕ, ◌+◌, ◌*◌, ◌<◌, ◌≤◌, List, length, take, drop, slice_index_or};
 ghost use Rattle.columnar.specs.Packed.{unpacked};
 ghost use Rattle.columnar.specs.Packings.{length_plain, length_packed};
 
@@ -37,7 +36,7 @@ impl<T: Copy> Packing for Plain<T> {
 
     ghost holds = { λ n. n };
 
-    ghost items = { λ xs start n. between start (start + n) xs };
+    ghost items = { λ xs start n. take n (drop start xs) };
 
     fn item(slots: &[T], start: usize, j: usize) -> T {
         slots[start + j]

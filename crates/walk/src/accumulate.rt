@@ -6,7 +6,7 @@ ghost use Rattle.columnar.specs.Rows.{cells_from};
 ghost use Rattle.columnar.specs.Views.{cells_under, ticks};
 ghost use Rattle.walk.specs.Visits.{visits, told_all, Tests};
 
-use columnar::column::{BooleanColumn, Column};
+use columnar::column::{BooleanColumn, FlatColumn};
 use columnar::filter::{Filter, passes};
 use columnar::items::Items;
 use columnar::packing::Packing;
@@ -59,7 +59,7 @@ fn walk<L: Packing, P: Fn(usize) -> bool, Q: Fn(usize) -> bool, V: Visitor<L::It
 /// Tells the visitor the group and the value of each valid row that the filter lets through, in ascending order.
 pub fn accumulate<L: Packing, V: Visitor<L::Item>>(
     group_indices: &[usize],
-    values: &Column<'_, L>,
+    values: &FlatColumn<'_, L>,
     opt_filter: &Filter<'_>,
     visitor: &mut V,
 )

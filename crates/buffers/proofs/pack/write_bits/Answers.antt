@@ -1,16 +1,11 @@
-use Rattle.std.proofs.Common.{take, arith}
+use Rattle.std.proofs.Common.{take, sym, rules, ◌∙◌}
 use Rattle.std.proofs.lemmas.List.{length-take-le}
-use Rattle.buffers.proofs.Packing.{byte_more, bytes_all}
+use Rattle.columnar.specs.Packed.{packed}
+use Rattle.buffers.proofs.Packing.{length_packed, packed_makes}
 use Rattle.buffers.proofs.pack.write_bits.Goals as goal
-
-pub loop-k-preserved : goal.loop-k-preserved
-loop-k-preserved g c =
-    let n = c.args.n in
-    let bits = g.S.Source.items c.args.bits.now in
-    byte_more (take n bits) c.args.out.now c.loop-k.out n c.loop-k.k c.packed_byte.result (length-take-le n bits c.requires.within) (omega arith) c.requires.room c.packed_byte.ensures c.loop-k.invariant
 
 pub returns : goal.returns
 returns g c =
-    let n = c.args.n in
-    let bits = g.S.Source.items c.args.bits.now in
-    bytes_all (take n bits) c.args.out.now c.loop-k.out n c.loop-k.k (length-take-le n bits c.requires.within) (omega arith) c.loop-k.invariant
+    let bits = take c.args.n (g.S.Source.items c.args.bits.now) in
+    let long = length-take-le c.args.n (g.S.Source.items c.args.bits.now) c.requires.within in
+    c.write_front.ensures (packed bits) (length_packed bits c.args.n long ∙ sym c.bytes_for.ensures) (λ j x h made. packed_makes bits c.args.n j x long h (search rules))

@@ -2,7 +2,7 @@ use Rattle.std.proofs.Common.{ap, sym, arith}
 use Rattle.std.specs.Option.{option_map}
 use Rattle.columnar.specs.Cells.{seen}
 use Rattle.columnar.proofs.CellRows.{length_cells_from, cells_past}
-use Rattle.columnar.proofs.column.Column.row.Goals as goal
+use Rattle.columnar.proofs.column.FlatColumn.row.Goals as goal
 
 pub returns-then-j-self : goal.returns-then-j-self
 returns-then-j-self g c =

@@ -1,7 +1,7 @@
 use Rattle.std.proofs.Common.{ap}
 use Rattle.std.specs.Option.{option_map}
 use Rattle.columnar.proofs.CellRows.{plain_nulls}
-use Rattle.columnar.proofs.column.Column.plain.Goals as goal
+use Rattle.columnar.proofs.column.FlatColumn.plain.Goals as goal
 
 pub invariant_of-result-clause-counted : goal.invariant_of-result-clause-counted
 invariant_of-result-clause-counted g c =

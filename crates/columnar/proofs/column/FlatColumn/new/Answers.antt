@@ -1,6 +1,6 @@
 use Rattle.std.proofs.Common.{sym, ◌∙◌}
 use Rattle.columnar.proofs.CellRows.{nulls_cells}
-use Rattle.columnar.proofs.column.Column.new.Goals as goal
+use Rattle.columnar.proofs.column.FlatColumn.new.Goals as goal
 
 pub invariant_of-result-clause-counted : goal.invariant_of-result-clause-counted
 invariant_of-result-clause-counted g c =

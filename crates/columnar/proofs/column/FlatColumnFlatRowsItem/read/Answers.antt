@@ -1,6 +1,6 @@
 use Rattle.std.proofs.Common.{sym, ◌∙◌, arith}
 use Rattle.columnar.proofs.CellRows.{row_within, row_valid, row_null}
-use Rattle.columnar.proofs.column.ColumnFlatRowsItem.read.Goals as goal
+use Rattle.columnar.proofs.column.FlatColumnFlatRowsItem.read.Goals as goal
 
 pub valid-requires : goal.valid-requires
 valid-requires g c =

@@ -1,0 +1,67 @@
+ghost use Rattle.std.specs.Prelude.{◌≡◌, ℕ, ◌≤◌, List, length, take, nat_lt};
+ghost use Rattle.columnar.specs.Packed.{bytes_for, packed};
+ghost use Rattle.buffers.specs.Memory.{front};
+
+use crate::front::write_front;
+use crate::pack::{bytes_for, write_bits};
+use crate::source::Source;
+use columnar::packing::{Packed, Packing, Plain};
+
+/// A packing into whose slots an answer is written.
+pub trait Writable: Packing {
+    /// How many slots so many rows take.
+    ghost places: { ℕ → ℕ };
+
+    /// The slots of items, from the first place on.
+    ghost laid: { List Self.Item → List Self.Slot };
+
+    fn places(rows: usize) -> usize
+        ensures { result ≡ places rows };
+
+    /// Whether so many slots hold fewer than so many rows.
+    fn lacks(slots: usize, rows: usize) -> bool
+        ensures { result ≡ nat_lt (Self.Packing.holds slots) rows };
+
+    /// Writes the first n items to the front; the slots past them stay.
+    fn write<S: Source<Self::Item>>(slots: &mut [Self::Slot], items: &S, n: usize)
+        requires within { n ≤ length (S.Source.items items.now) }
+        requires room { places n ≤ length slots.old }
+        ensures { slots.new ≡ front (laid (take n (S.Source.items items.now))) slots.old };
+}
+
+impl<T: Copy> Writable for Plain<T> {
+    ghost places = { λ n. n };
+
+    ghost laid = { λ xs. xs };
+
+    fn places(rows: usize) -> usize {
+        rows
+    }
+
+    fn lacks(slots: usize, rows: usize) -> bool {
+        rows > slots
+    }
+
+    fn write<S: Source<T>>(slots: &mut [T], items: &S, n: usize) {
+        write_front(slots, n, |j| items.get(j));
+    }
+}
+
+impl Writable for Packed {
+    ghost places = { bytes_for };
+
+    ghost laid = { packed };
+
+    fn places(rows: usize) -> usize {
+        bytes_for(rows)
+    }
+
+    fn lacks(slots: usize, rows: usize) -> bool {
+        // Eight times the bytes need not fit a word.
+        rows as u128 > 8 * (slots as u128)
+    }
+
+    fn write<S: Source<bool>>(slots: &mut [u8], items: &S, n: usize) {
+        write_bits(slots, items, n);
+    }
+}
