@@ -2,31 +2,34 @@ ghost use Rattle.std.specs.Prelude.{◌≡◌, ℕ, ◌-◌, ◌<◌, ◌≤◌,
 ghost use Rattle.groups.specs.Seen.{is_plain};
 ghost use Rattle.std.specs.Result.{result_err};
 ghost use Rattle.std.specs.List.{AllByRecursion};
-ghost use Rattle.columnar.specs.Cells.{passes as let_through};
 ghost use Rattle.buffers.specs.Memory.{stored};
-ghost use Rattle.columnar.specs.Views.{ticks};
+ghost use Rattle.columnar.specs.Views.{cells_under, ticks};
 ghost use Rattle.groups.specs.Emits.{count_of};
 ghost use Rattle.groups.specs.Limits.{cap};
 ghost use Rattle.groups.specs.Tally.{fresh, unless, update_refusal, updated, merge_refusal, merged, evaluate_refusal, answer, forget_refusal, removed, convert_refusal, converted};
 ghost use Rattle.operations.specs.Primitive.{primitive};
-ghost use Rattle.walk.specs.Visits.{visits, told_all};
+ghost use Rattle.operations.proofs.Credits.{primitive_laws};
 ghost use Rattle.prim_op.specs.Means.{marks_of, values_of, meaning_of, Sound};
 
-use buffers::buffers::{Buffers, FlatBuffers};
+use buffers::buffers::{Buffers, ColumnBuffers, FlatBuffers};
+use buffers::writable::Writable;
+use columnar::column::FlatColumn;
 use columnar::filter::Filter;
+use columnar::packing::Packing;
 use columnar::refusal::Refusal;
 use columnar::rows::{FlatRows, Rows};
 use groups::checks::refuse;
 use groups::emit::EmitTo;
+use groups::groups_accumulator::{Commuting, GroupsAccumulator};
 use groups::limits::MOST;
 use groups::moves::{fill_part, move_down};
 use groups::null_state::NullState;
 use operations::operation::Operation;
-use walk::accumulate::Visitor;
-use walk::columns::Accumulate;
+use std::marker::PhantomData;
+use walk::accumulate::{Visitor, accumulate};
 
 /// A value and a mark for each kept group, in lent memory, under an operation: the accumulator of the primitive and the
-/// boolean kinds, which differ in how rows and answers lie.
+/// boolean kinds, which differ in how the items of rows and answers are packed.
 #[derive(Drop)]
 pub struct OpGroupsAccumulator<'m, T, O, L> {
     pub(crate) values: &'m mut [T],
@@ -35,16 +38,16 @@ pub struct OpGroupsAccumulator<'m, T, O, L> {
     pub(crate) most_rows: usize,
     pub(crate) most_groups: usize,
     pub(crate) op: O,
-    pub(crate) layout: L,
+    pub(crate) packing: PhantomData<L>,
 }
 
 impl<'m, T: Copy, O: Operation<T>, L> OpGroupsAccumulator<'m, T, O, L> {
-    /// An accumulator of no groups over lent memory, with a place and a mark for each group that it may keep.
-    pub(crate) fn over(
+    /// An accumulator of no groups, over lent memory with a place and a mark for each group that it may keep. Its limits are
+    /// the least of the number asked for, the cap and, for groups, the places given.
+    pub fn new(
         values: &'m mut [T],
         marks: &'m mut [bool],
         op: O,
-        layout: L,
         max_rows: usize,
         max_groups: usize,
     ) -> OpGroupsAccumulator<'m, T, O, L>
@@ -59,7 +62,7 @@ impl<'m, T: Copy, O: Operation<T>, L> OpGroupsAccumulator<'m, T, O, L> {
             most_rows: max_rows.min(MOST),
             most_groups,
             op,
-            layout,
+            packing: PhantomData,
         }
     }
 }
@@ -85,24 +88,7 @@ impl<'m, T: Copy, O: Operation<T>, L> Visitor<T> for OpGroupsAccumulator<'m, T, 
     }
 }
 
-/// A walk over any column.
-fn walk<T: Copy, C: Accumulate<T>, V: Visitor<T>>(
-    values: &C,
-    group_indices: &[usize],
-    opt_filter: &Filter<'_>,
-    visitor: &mut V,
-)
-    requires even { length group_indices.now ≡ length (C.Rows.cells values.now) }
-    requires named { AllByRecursion (λ k. k < (V.Visitor.fixed visitor.old).0) group_indices.now }
-    requires ticked { IfSome (ticks opt_filter.now) (λ ts. length ts ≡ length group_indices.now) }
-    ensures told { V.Visitor.model visitor.new ≡ told_all V.Visitor.after (V.Visitor.model visitor.old) (visits group_indices.now (C.Rows.cells values.now) (let_through (ticks opt_filter.now) (length group_indices.now))) }
-    ensures same { V.Visitor.fixed visitor.new ≡ V.Visitor.fixed visitor.old }
-    ensures fits { AllByRecursion (λ v. V.Visitor.fit v.1) (visits group_indices.now (C.Rows.cells values.now) (let_through (ticks opt_filter.now) (length group_indices.now))) }
-{
-    values.accumulate(group_indices, opt_filter, visitor);
-}
-
-impl<'m, T: Copy, O: Operation<T>, L> OpGroupsAccumulator<'m, T, O, L> {
+impl<'m, T: Copy, O: Operation<T>, L: Writable<Item = T>> OpGroupsAccumulator<'m, T, O, L> {
     /// Opens groups up to the total: the new ones have the start value and no mark.
     fn open(&mut self, total: usize, turns: bool)
         requires order { self.old.null_state.kept ≤ total }
@@ -126,17 +112,17 @@ impl<'m, T: Copy, O: Operation<T>, L> OpGroupsAccumulator<'m, T, O, L> {
     }
 
     /// Joins each row's credit to its group's, after opening groups up to the total; or a refusal, and nothing changed.
-    pub(crate) fn update_rows<C: Accumulate<T>>(
+    pub(crate) fn update_rows(
         &mut self,
-        values: &C,
+        values: &FlatColumn<'_, L>,
         group_indices: &[usize],
         opt_filter: &Filter<'_>,
         total: usize,
     ) -> Result<(), Refusal>
         requires { Sound O.Operation.start self.old }
         ensures stays { Sound O.Operation.start self.new }
-        ensures answer { result_err result ≡ update_refusal (primitive O.Operation.start O.Operation.rule) (meaning_of self.old) (C.Rows.cells values.now) (ticks opt_filter.now) group_indices.now total }
-        ensures after { meaning_of self.new ≡ unless (result_err result) (meaning_of self.old) (updated (primitive O.Operation.start O.Operation.rule) (meaning_of self.old) (C.Rows.cells values.now) (ticks opt_filter.now) group_indices.now total) }
+        ensures answer { result_err result ≡ update_refusal (primitive O.Operation.start O.Operation.rule) (meaning_of self.old) (cells_under values.now.validity (L.Packing.items values.now.values.slots.now values.now.values.start values.now.values.len)) (ticks opt_filter.now) group_indices.now total }
+        ensures after { meaning_of self.new ≡ unless (result_err result) (meaning_of self.old) (updated (primitive O.Operation.start O.Operation.rule) (meaning_of self.old) (cells_under values.now.validity (L.Packing.items values.now.values.slots.now values.now.values.start values.now.values.len)) (ticks opt_filter.now) group_indices.now total) }
     {
         let kept = self.null_state.kept;
         let most_rows = self.most_rows;
@@ -153,7 +139,7 @@ impl<'m, T: Copy, O: Operation<T>, L> OpGroupsAccumulator<'m, T, O, L> {
         )?;
         let turns = opt_filter.given() | (values.null_count() > 0);
         self.open(total, turns);
-        walk(values, group_indices, opt_filter, self);
+        accumulate(group_indices, values, opt_filter, self);
         Ok(())
     }
 
@@ -213,16 +199,16 @@ impl<'m, T: Copy, O: Operation<T>, L> OpGroupsAccumulator<'m, T, O, L> {
     }
 
     /// Joins each state row's credit to its group's: a state row is a row, and no filter is given.
-    pub(crate) fn merge_rows<C: Accumulate<T>>(
+    pub(crate) fn merge_rows(
         &mut self,
-        values: &C,
+        values: &FlatColumn<'_, L>,
         group_indices: &[usize],
         total: usize,
     ) -> Result<(), Refusal>
         requires { Sound O.Operation.start self.old }
         ensures stays { Sound O.Operation.start self.new }
-        ensures answer { result_err result ≡ merge_refusal (primitive O.Operation.start O.Operation.rule) (meaning_of self.old) (C.Rows.cells values.now) group_indices.now total }
-        ensures after { meaning_of self.new ≡ unless (result_err result) (meaning_of self.old) (merged (primitive O.Operation.start O.Operation.rule) (meaning_of self.old) (C.Rows.cells values.now) group_indices.now total) }
+        ensures answer { result_err result ≡ merge_refusal (primitive O.Operation.start O.Operation.rule) (meaning_of self.old) (cells_under values.now.validity (L.Packing.items values.now.values.slots.now values.now.values.start values.now.values.len)) group_indices.now total }
+        ensures after { meaning_of self.new ≡ unless (result_err result) (meaning_of self.old) (merged (primitive O.Operation.start O.Operation.rule) (meaning_of self.old) (cells_under values.now.validity (L.Packing.items values.now.values.slots.now values.now.values.start values.now.values.len)) group_indices.now total) }
     {
         let none = Filter::none();
         self.update_rows(values, group_indices, &none, total)
@@ -266,5 +252,93 @@ impl<'m, T: Copy, O: Operation<T>, L> OpGroupsAccumulator<'m, T, O, L> {
         }
         out.put_rows(values, opt_filter, O::starting_value());
         Ok(())
+    }
+}
+
+impl<'a, 'm, T: Copy + 'a, O: Operation<T>, L: Writable<Item = T>> GroupsAccumulator<'a>
+    for OpGroupsAccumulator<'m, T, O, L>
+where
+    L::Slot: 'a,
+{
+    type Value = T;
+
+    type State = T;
+
+    type Out = T;
+
+    type Values = FlatColumn<'a, L>;
+
+    type States = FlatColumn<'a, L>;
+
+    type Answers = ColumnBuffers<'a, L>;
+
+    type StateBuffers = ColumnBuffers<'a, L>;
+
+    ghost kind = { primitive O.Operation.start O.Operation.rule };
+
+    ghost laws = { primitive_laws O.Operation.combines O.Operation.start };
+
+    ghost meaning = { meaning_of };
+
+    ghost sound = { Sound O.Operation.start };
+
+    fn update_batch(
+        &mut self,
+        values: &FlatColumn<'a, L>,
+        group_indices: &[usize],
+        opt_filter: &Filter<'_>,
+        total_num_groups: usize,
+    ) -> Result<(), Refusal> {
+        self.update_rows(values, group_indices, opt_filter, total_num_groups)
+    }
+
+    fn merge_batch(
+        &mut self,
+        values: &FlatColumn<'a, L>,
+        group_indices: &[usize],
+        total_num_groups: usize,
+    ) -> Result<(), Refusal> {
+        self.merge_rows(values, group_indices, total_num_groups)
+    }
+
+    fn merge_written(
+        &mut self,
+        written: &ColumnBuffers<'a, L>,
+        group_indices: &[usize],
+        total_num_groups: usize,
+    ) -> Result<(), Refusal> {
+        let states = written.column();
+        self.merge_rows(&states, group_indices, total_num_groups)
+    }
+
+    fn convert_to_state(
+        &self,
+        values: &FlatColumn<'a, L>,
+        opt_filter: &Filter<'_>,
+        out: &mut ColumnBuffers<'a, L>,
+    ) -> Result<(), Refusal> {
+        self.convert_rows(values, opt_filter, out)
+    }
+
+    fn evaluate(&mut self, emit_to: EmitTo, out: &mut ColumnBuffers<'a, L>) -> Result<(), Refusal> {
+        self.emit(emit_to, out)
+    }
+
+    fn peek(&self, emit_to: EmitTo, out: &mut ColumnBuffers<'a, L>) -> Result<(), Refusal> {
+        self.show(emit_to, out)
+    }
+
+    fn forget(&mut self, emit_to: EmitTo) -> Result<(), Refusal> {
+        self.forget_groups(emit_to)
+    }
+}
+
+impl<'a, 'm, T: Copy + 'a, O: Operation<T>, L: Writable<Item = T>> Commuting<'a>
+    for OpGroupsAccumulator<'m, T, O, L>
+where
+    L::Slot: 'a,
+{
+    fn commutes(&self) -> u8 {
+        0
     }
 }

@@ -1,5 +1,6 @@
 use Rattle.std.proofs.Common.{ap, ◌∙◌}
 use Rattle.std.specs.Result.{result_err}
+use Rattle.columnar.specs.Views.{cells_under}
 use Rattle.groups.specs.Tally.{unless, update_refusal, updated}
 use Rattle.operations.specs.Primitive.{primitive}
 use Rattle.prim_op.specs.Means.{meaning_of}
@@ -11,7 +12,8 @@ returns g c =
     let o = g.O.Operation in
     let k = primitive o.start o.rule in
     let m = meaning_of c.args.self.now in
-    let rows = g.C.Rows.cells c.args.values.now in
+    let v = c.args.values.now.values in
+    let rows = cells_under c.args.values.now.validity (g.L.Packing.items v.slots.now v.start v.len) in
     let gs = c.args.group_indices.now in
     let total = c.args.total in
     record {

@@ -4,7 +4,7 @@ use Rattle.std.proofs.ByRecursion.{All-weaker}
 use Rattle.std.proofs.lemmas.Result.{err_from_is_err_and}
 use Rattle.std.proofs.lemmas.Bool.{and_parts}
 use Rattle.columnar.specs.Cells.{passes, nulls, seen}
-use Rattle.columnar.specs.Views.{ticks}
+use Rattle.columnar.specs.Views.{cells_under, ticks}
 use Rattle.groups.specs.Lists.{deal}
 use Rattle.groups.specs.Lines.{batch_line}
 use Rattle.groups.specs.Tally.{refusal, admitted}
@@ -24,7 +24,8 @@ returns-in_err-refuse g c =
     let s = c.args.self.now in
     let plain = is_plain s.null_state.seen_values in
     let kept = s.null_state.kept in
-    let rows = g.C.Rows.cells c.args.values.now in
+    let v = c.args.values.now.values in
+    let rows = cells_under c.args.values.now.validity (g.L.Packing.items v.slots.now v.start v.len) in
     let f = ticks c.args.opt_filter.now in
     let same : in_force plain kept c.refuse.new.marks ≡ marks_of s = forced_same plain kept c.refuse.new.marks s.marks.now c.refuse.ensures.marks in
     let in-marks : kept ≤ length s.marks.now = omega arith in
@@ -43,8 +44,8 @@ returns-in_err-refuse g c =
       after = meaning_same _ _ _ _ _ _ _ _ 0 (ap (λ ms. credits_of ms (values_of s)) same) refl refl refl;
     }
 
-pub walk-requires : goal.walk-requires
-walk-requires g c =
+pub accumulate-requires : goal.accumulate-requires
+accumulate-requires g c =
     let s = c.args.self.now in
     let t = c.open.new.self in
     let a = (accepted s.most_rows s.most_groups s.null_state.kept c.len.result c.args.group_indices.now c.ticked.result c.args.total _ (sym c.in_ok-refuse.ensures.answer)).0 in
@@ -62,11 +63,12 @@ returns g c =
     let kept = s.null_state.kept in
     let total = c.args.total in
     let gs = c.args.group_indices.now in
-    let rows = g.C.Rows.cells c.args.values.now in
+    let v = c.args.values.now.values in
+    let rows = cells_under c.args.values.now.validity (g.L.Packing.items v.slots.now v.start v.len) in
     let f = ticks c.args.opt_filter.now in
     let t = c.open.new.self in
     let plain' = is_plain t.null_state.seen_values in
-    let z = c.walk.new.visitor in
+    let z = c.accumulate.new.visitor in
     let ps = visits gs rows (passes f (length gs)) in
     let line : refusal (batch_line s.most_rows s.most_groups kept (length rows) gs (option_map length f) total) ≡ None =
     ap (λ n. refusal (batch_line s.most_rows s.most_groups kept n gs (option_map length f) total)) (sym c.len.ensures)
@@ -74,8 +76,8 @@ returns g c =
     ∙ sym c.in_ok-refuse.ensures.answer in
     let a = (accepted s.most_rows s.most_groups kept (length rows) gs (option_map length f) total _ line).0 in
     let names = named s.most_rows s.most_groups kept (length rows) gs (option_map length f) total line in
-    let told = c.walk.ensures.told ∙ told_memory o.start o.rule t.values.now t.marks.now plain' ps in
-    let five = five_same _ _ _ _ _ _ _ _ _ _ _ _ c.walk.ensures.same in
+    let told = c.accumulate.ensures.told ∙ told_memory o.start o.rule t.values.now t.marks.now plain' ps in
+    let five = five_same _ _ _ _ _ _ _ _ _ _ _ _ c.accumulate.ensures.same in
     let turns = c.given.result || ltb 0 c.null_count.result in
     let turned : turns ≡ (is_some f || ltb 0 (nulls rows)) = ap (λ b. b || ltb 0 c.null_count.result) c.given.ensures ∙ ap (λ n. is_some f || ltb 0 n) c.null_count.ensures in
     let force : in_force plain kept c.refuse.new.marks ≡ marks_of s = forced_same plain kept c.refuse.new.marks s.marks.now c.refuse.ensures.marks in
@@ -87,7 +89,7 @@ returns g c =
       room_values = in-values;
       room_marks = in-marks;
       below = visits_below total gs rows (passes f (length gs)) a.below;
-      fit = c.walk.ensures.fits;
+      fit = c.accumulate.ensures.fits;
       unset = c.requires.unset;
       values_opened = c.open.ensures.values;
       values_told = ap (λ y. y.0) told;
