@@ -9,13 +9,13 @@
 --     refusal c        the first of them in line
 --     unless r a b     b where nothing is refused, else a
 --     X-refusal, and what an accepted call gives: updated, merged, answer, peeked, removed, converted
-use Rattle.std.specs.Prelude.{ℕ, ◌-◌, Bool, true, false, cond, not, ◌&&◌, ◌||◌, List, [], ◌∷◌, ◌++◌, map, length, replicate, is_some, Some, None, sum_by, Option, ◌==◌, nat_lt}
+use Rattle.std.specs.Prelude.{ℕ, ◌-◌, Bool, true, false, cond, not, ◌&&◌, ◌||◌, List, [], ◌∷◌, ◌++◌, map, length, replicate, is_some, Some, None, sum_by, zip, Option, ◌==◌, nat_lt}
 use Rattle.columnar.specs.declared.refusal.Refusal.{Refusal}
 use Rattle.columnar.specs.declared.refusal.Refusal.TheVariants.{BitsOutOfBytes, MaskLength, Offsets, SpanOrder, TooManyRows, IndexCount, FilterLength, TotalBelowKept, TotalAboveLimit, IndexAboveTotal, GroupNotNamed, TooManyPairs, TooManyGroups, ShortBuffer}
 use Rattle.columnar.specs.Cells.{Cell, Column, Ticks, seen, handed, passes, nulls}
 use Rattle.buffers.specs.Memory.{Layout, Room, short}
 use Rattle.groups.specs.declared.emit.EmitTo.{EmitTo}
-use Rattle.groups.specs.Lists.{deal, zip, all_below, names_from}
+use Rattle.groups.specs.Lists.{deal, all_below, names_from}
 use Rattle.groups.specs.Emits.{taken, others, too_many, resets}
 use Rattle.groups.specs.Kind.{Kind, Switch, by_nulls, always_marked, always_plain, read}
 

@@ -1,5 +1,7 @@
-use Rattle.std.proofs.Common.{◌<◌, length, ap, arith}
+use Rattle.std.proofs.Common.{◌-◌, ◌<◌, length, take, drop, ap, ◌∙◌, arith}
+use Rattle.std.specs.List.{list_all}
 use Rattle.std.proofs.ByRecursion.{All-weaker}
+use Rattle.groups.specs.Named.{named_marks}
 use Rattle.groups.proofs.NamedGroups.{refilled_length, names_answer, table_front}
 use Rattle.groups.proofs.checks.names_all.Goals as goal
 
@@ -9,8 +11,9 @@ mark_named-requires c =
 
 pub returns : goal.returns
 returns c =
-    let xs = c.args.marks.now in
+    let k = c.args in
+    let table = c.mark_named.ensures ∙ ap (λ ms. named_marks k.kept ms k.group_indices.now) c.fill_part.ensures in
     record {
-      answer = names_answer xs c.args.kept c.args.total c.requires.order c.requires.within _ _ c.args.group_indices.now c.fill_part.ensures c.mark_named.ensures _ c.all_set.ensures;
-      marks = table_front xs c.args.kept c.args.total c.requires.order c.requires.within _ _ c.args.group_indices.now c.fill_part.ensures c.mark_named.ensures;
+      answer = c.all_set.ensures ∙ ap (λ ms. list_all (λ mark. mark) (take (k.total - k.kept) (drop k.kept ms))) table ∙ names_answer k.marks.now k.kept k.total c.requires.order c.requires.within k.group_indices.now;
+      marks = ap (take k.kept) table ∙ table_front k.marks.now k.kept k.total c.requires.order c.requires.within k.group_indices.now;
     }
