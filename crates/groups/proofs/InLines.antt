@@ -5,6 +5,7 @@ use Rattle.columnar.specs.declared.refusal.Refusal.TheVariants.{BitsOutOfBytes, 
 use Rattle.columnar.specs.Refusals.{number_of}
 use Rattle.groups.specs.Tally.{Conditions, holds, in_line, foremost}
 use Rattle.groups.specs.InLine.{asked}
+use Rattle.groups.proofs.Accepting.{peel}
 
 abbrev In : Refusal → List Refusal → Type 0
 In q [] = ⊥
@@ -28,12 +29,8 @@ came : (b : Bool) (x r : Refusal) (rest : Option Refusal) → cond b (Some x) re
 came true x r rest e = inl (refl, cc)
 came false x r rest e = inr (refl, e)
 
-left_over : (b : Bool) (x : Refusal) (rest : Option Refusal) → cond b (Some x) rest ≡ None → (b ≡ false) × (rest ≡ None)
-left_over true x rest e = let z : ◌≡◌ {A = ℕ} 0 1 = cc in absurd (omega arith)
-left_over false x rest e = (refl, e)
-
 pub foremost_holds : (h : Refusal → Bool) (rs : List Refusal) (r : Refusal) → foremost (asked h rs) ≡ Some r → h r ≡ true
-foremost_holds h [] r e = let z : ◌≡◌ {A = ℕ} 0 1 = cc in absurd (omega arith)
+foremost_holds h [] r e = absurd (cc)
 foremost_holds h (x ∷ xs) r e = ⊎_elim (λ w. ap h (sym w.1) ∙ w.0) (λ w. foremost_holds h xs r w.1) (came (h x) x r (foremost (asked h xs)) e)
 
 pub foremost_first : (h : Refusal → Bool) (rs : List Refusal) (r q : Refusal) → Rising rs → foremost (asked h rs) ≡ Some r → In q rs → number_of q < number_of r → h q ≡ false
@@ -49,7 +46,7 @@ foremost_first h (x ∷ xs) r q up e there lower =
 pub foremost_none : (h : Refusal → Bool) (rs : List Refusal) (q : Refusal) → foremost (asked h rs) ≡ None → In q rs → h q ≡ false
 foremost_none h [] q e there = absurd there
 foremost_none h (x ∷ xs) q e there =
-    let w = left_over (h x) x (foremost (asked h xs)) e in
+    let w = peel (h x) x (foremost (asked h xs)) e in
     ⊎_elim (λ is. ap h (sym is) ∙ w.0) (λ later. foremost_none h xs q w.1 later) there
 
 -- each refusal is in line, or holds of no call

@@ -3,6 +3,7 @@ ghost use Rattle.groups.specs.Moves.{refilled, moved_down};
 
 /// Writes `x` over the places from `from` up to `to`.
 // The library's `fill` asks that no clone fails, which of a `Copy` type alone is not known.
+#[tactic(auto, using(crate::proofs::Fills::filled_more))]
 pub fn fill_part<T: Copy>(slots: &mut [T], from: usize, to: usize, x: T)
     requires order { from ≤ to }
     requires within { to ≤ length slots.old }
