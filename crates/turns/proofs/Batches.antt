@@ -1,5 +1,6 @@
 -- What an accepted call has, what a batch without filter and nulls is, and what columns say.
 use Rattle.std.proofs.Common.{◌≡◌, ℕ, suc, ◌+◌, ◌-◌, ◌≤◌, Bool, true, false, cond, not, eqb, ltb, List, [], ◌∷◌, map, length, is_some, Some, None, sum_by, Option, refl, ap, arith}
+use Rattle.std.specs.Prelude.{zip}
 use Rattle.std.specs.List.{AllByRecursion}
 use Rattle.std.proofs.lemmas.Bool.{not-false, cond-true, false≢true, eqb-true, ltb-false, le-ltb}
 use Rattle.std.proofs.lemmas.List.Sums.{sum_by-cons}
@@ -7,7 +8,7 @@ use Rattle.columnar.specs.Cells.{Cell, Ticks, cell, over, handed, cells, masked_
 use Rattle.groups.specs.declared.emit.EmitTo.{EmitTo}
 use Rattle.groups.specs.declared.emit.EmitTo.TheVariants.{All as Whole, First}
 use Rattle.groups.specs.Emits.{count_of, too_many}
-use Rattle.groups.specs.Lists.{zip, all_below, names_from}
+use Rattle.groups.specs.Lists.{all_below, names_from}
 use Rattle.groups.specs.Kind.{Kind}
 use Rattle.groups.specs.Tally.{Means, Conditions, refusal, batch_conditions, emit_conditions, differs, row_entries}
 use Rattle.turns.proofs.Deals.{heads}

@@ -3,11 +3,12 @@ use Rattle.std.proofs.Common.{◌≡◌, ℕ, zero, suc, ◌+◌, ◌-◌, ◌<�
 use lib.ListN.{length-replicate, length-map, get_or-map}
 use Rattle.std.proofs.lemmas.List.{get_or-drop, get_or-take, length-take-le, append-nil, append_assoc}
 use Rattle.std.proofs.lemmas.Bool.{cases_eq, eq-eqb, ne_eqb, cond-true, cond-false}
+use Rattle.std.specs.Prelude.{zip}
 use Rattle.columnar.specs.Cells.{Cell, Ticks, seen}
 use Rattle.groups.specs.declared.emit.EmitTo.{EmitTo}
 use Rattle.groups.specs.declared.emit.EmitTo.TheVariants.{All, First}
 use Rattle.groups.specs.Emits.{taken, others, count_of}
-use Rattle.groups.specs.Lists.{change, deal, zip}
+use Rattle.groups.specs.Lists.{change, deal}
 use Rattle.groups.specs.Tally.{row_entries}
 use Rattle.turns.specs.Lists.{listed}
 use Rattle.turns.specs.Book.{Bag, Open, Account, Entry, rows_at, bags_at, kept, open_at, grown, front, without, bags_of}

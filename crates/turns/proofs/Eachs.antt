@@ -1,8 +1,9 @@
 -- Lists related place by place.
 use Rattle.std.proofs.Common.{◌≡◌, ℕ, zero, suc, ◌<◌, List, [], ◌∷◌, ◌++◌, map, length, get_or, take, drop, set, replicate, refl, ap, subst, arith}
+use Rattle.std.specs.Prelude.{zip}
 use Rattle.groups.specs.declared.emit.EmitTo.{EmitTo}
 use Rattle.groups.specs.declared.emit.EmitTo.TheVariants.{All, First}
-use Rattle.groups.specs.Lists.{change, deal, zip}
+use Rattle.groups.specs.Lists.{change, deal}
 use Rattle.groups.specs.Emits.{taken, others}
 use Rattle.std.specs.List.{AllByRecursion}
 use Rattle.std.proofs.ByRecursion.{All-take, All-drop}

@@ -1,6 +1,7 @@
 -- What every turn keeps: each accumulator's credits are alike the joins of its bags, and each row handed out is what its entry says.
 use Rattle.std.proofs.Common.{◌≡◌, ℕ, ◌-◌, ◌<◌, ◌≤◌, Bool, true, false, cond, ◌&&◌, ◌||◌, ltb, List, [], ◌∷◌, ◌++◌, map, length, get_or, set, replicate, is_some, Some, None, Option, sym, refl, ap, ◌∙◌, subst, arith}
 use lib.ListN.{get_or-map}
+use Rattle.std.specs.Prelude.{zip}
 use Rattle.std.specs.List.{AllByRecursion}
 use Rattle.std.proofs.lemmas.Bool.{or_parts, cond-true, true≢false}
 use Rattle.columnar.specs.declared.refusal.Refusal.{Refusal}
@@ -9,7 +10,7 @@ use Rattle.buffers.specs.Memory.{Room, short}
 use Rattle.groups.specs.declared.emit.EmitTo.{EmitTo}
 use Rattle.groups.specs.declared.emit.EmitTo.TheVariants.{All as Whole, First}
 use Rattle.groups.specs.Emits.{taken, others, count_of}
-use Rattle.groups.specs.Lists.{zip, all_below}
+use Rattle.groups.specs.Lists.{all_below}
 use Rattle.groups.specs.Kind.{Kind, Switch, by_nulls, always_marked, always_plain, Laws, Clear, read, joined}
 use Rattle.groups.specs.Tally.{Means, turned, left_by, converts_masked, opened, with_rows, with_states, row_entries, row_credits, update_refusal, updated, merge_refusal, merged, evaluate_refusal, answer, removed, state_column, peeked, peek_refusal, forget_refusal, converted, convert_refusal, fresh}
 use Rattle.turns.specs.Lists.{Each, listed}

@@ -1,9 +1,10 @@
 -- What lies under nulls, in rows that are not let through and in null ticks reaches nothing.
 use Rattle.std.proofs.Common.{◌≡◌, ℕ, suc, ◌+◌, ◌-◌, Bool, true, false, cond, not, ◌&&◌, ◌||◌, eqb, ltb, List, [], ◌∷◌, map, length, set, is_some, Some, None, sum_by, sym, refl, ap, ◌∙◌, ap₂}
 use Rattle.std.proofs.lemmas.Bool.{true≢false, false≢true}
+use Rattle.std.specs.Prelude.{zip}
 use Rattle.columnar.specs.Cells.{Cell, Ticks, seen, passes, nulls}
 use Rattle.buffers.specs.Memory.{Room, short}
-use Rattle.groups.specs.Lists.{change, deal, zip, all_below, names_from}
+use Rattle.groups.specs.Lists.{change, deal, all_below, names_from}
 use Rattle.groups.specs.Kind.{Kind, read}
 use Rattle.groups.specs.Tally.{Means, refusal, convert_conditions, differs, turned, converts_masked, admitted, with_credits, opened, with_rows, row_credits, state_column}
 use Rattle.turns.specs.Lists.{Each, EachRow}

@@ -1,8 +1,9 @@
 use Rattle.std.proofs.Common.{◌≡◌, ℕ, ◌-◌, Bool, true, false, not, eqb, ltb, List, length, ℤ, sum_by, refl, ap}
+use Rattle.std.specs.Prelude.{zip}
 use Rattle.std.specs.Int.{int_wrap}
 use Rattle.columnar.specs.Cells.{Cell, Ticks}
 use Rattle.buffers.specs.Memory.{Room, values_layout, short}
-use Rattle.groups.specs.Lists.{zip, all_below, names_from}
+use Rattle.groups.specs.Lists.{all_below, names_from}
 use Rattle.groups.specs.Tally.{Means, Conditions, refusal, convert_conditions, differs, merge_refusal, with_states, converted, convert_refusal}
 use Rattle.cases.specs.Words.{sums, is_number}
 use Rattle.cases.specs.Views.{ViewCases, BufferCases}
