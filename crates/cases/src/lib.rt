@@ -5,5 +5,4 @@ ghost use Rattle.cases.specs.Table.{WorkedCases};
 /// Worked cases of the definitions, each by computing it.
 pub fn worked_cases()
     ensures { WorkedCases }
-{
-}
+{}

@@ -113,5 +113,4 @@ impl Batch<'_> {
 /// Of a call's refusals, the one that is answered is the first by number whose condition holds.
 pub fn first_by_number()
     ensures { FirstByNumber }
-{
-}
+{}

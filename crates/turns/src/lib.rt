@@ -9,8 +9,7 @@ use groups::groups_accumulator::{Commuting, GroupsAccumulator};
 /// rows credited to it, in the order of crediting.
 pub fn runs_hold<'a, T: GroupsAccumulator<'a>>()
     ensures { RunsHold T.GroupsAccumulator.kind InOrder }
-{
-}
+{}
 
 /// Where the kind commutes, the same of the rows taken in any order.
 pub fn runs_hold_in_any_order<'a, T: Commuting<'a>>()
