@@ -53,6 +53,7 @@ fn all_set(marks: &[bool], from: usize, to: usize) -> bool
 
 /// Whether each group from `kept` up to `total` is named by a row, in time linear in rows and groups.
 /// The marks from `kept` up to `total` serve as a table; those of the kept groups stay.
+#[tactic(auto, using(crate::proofs::NamedGroups::names_answer, crate::proofs::NamedGroups::table_front))]
 fn names_all(marks: &mut [bool], group_indices: &[usize], kept: usize, total: usize) -> bool
     requires order { kept ≤ total }
     requires within { total ≤ length marks.old }
@@ -92,6 +93,7 @@ impl Batch<'_> {
     }
 
     /// Decides the refusals 5 to 11 of a batch, in their order. Of the marks, those of the kept groups stay.
+    #[tactic(auto, using(crate::proofs::Accepting::accepted))]
     pub fn refuse(
         &self,
         limits: BatchLimits,

@@ -10,7 +10,7 @@ use Rattle.groups.specs.declared.emit.EmitTo.TheVariants.{All as Whole, First}
 use Rattle.groups.specs.Emits.{count_of, too_many}
 use Rattle.groups.specs.Lists.{all_below, names_from}
 use Rattle.groups.specs.Kind.{Kind}
-use Rattle.groups.specs.Tally.{Means, Conditions, refusal, batch_conditions, emit_conditions, differs, row_entries}
+use Rattle.groups.specs.Tally.{Means, Conditions, none_hold, refusal, batch_conditions, emit_conditions, differs, row_entries}
 use Rattle.groups.proofs.Accepting.{peel}
 use Rattle.turns.proofs.Deals.{heads}
 
@@ -18,7 +18,7 @@ use Rattle.turns.proofs.Deals.{heads}
 -- neither 6 nor 8 nor 11
 abbrev of_batch : Bool → Bool → Bool → Bool → Bool → Bool → Bool → Bool → Conditions
 of_batch rows indices ticks below above index named pairs =
-    record {
+    record none_hold {
       too_many_rows = rows;
       indices_differ = indices;
       filter_differs = ticks;
@@ -27,8 +27,6 @@ of_batch rows indices ticks below above index named pairs =
       index_above = index;
       not_named = named;
       too_many_pairs = pairs;
-      too_many_groups = false;
-      buffer_short = false;
     }
 
 through : (rows indices ticks below above index named pairs : Bool) → refusal (of_batch rows indices ticks below above index named pairs) ≡ None

@@ -6,7 +6,7 @@ use Rattle.columnar.specs.Cells.{Cell, Ticks, seen, passes, nulls}
 use Rattle.buffers.specs.Memory.{Room, short}
 use Rattle.groups.specs.Lists.{change, deal, all_below, names_from}
 use Rattle.groups.specs.Kind.{Kind, read}
-use Rattle.groups.specs.Tally.{Means, refusal, convert_conditions, differs, turned, converts_masked, admitted, with_credits, opened, with_rows, row_credits, state_column}
+use Rattle.groups.specs.Tally.{Means, none_hold, refusal, convert_conditions, differs, turned, converts_masked, admitted, with_credits, opened, with_rows, row_credits, state_column}
 use Rattle.turns.specs.Lists.{EachRow}
 use Rattle.turns.specs.Turns.{Turn, Sent, Layouts, Step, at, ruled, sent_cells, step, outcomes}
 use Rattle.turns.specs.Turns.Outcome.{done, wrote, no_such}
@@ -150,7 +150,7 @@ module _ {V S O : Type 0} (K : Kind V S O) where
         let m = at K l ts i in
         ruled K l
         (refusal
-        (record {
+        (record none_hold {
           too_many_rows = ltb m.most_rows n;
           indices_differ = not (eqb n (length gs));
           filter_differs = differ;
@@ -159,8 +159,6 @@ module _ {V S O : Type 0} (K : Kind V S O) where
           index_above = not (all_below total gs);
           not_named = not (names_from (length m.credits) (total - length m.credits) gs);
           too_many_pairs = ltb m.most_pairs (sum_by K.pairs after);
-          too_many_groups = false;
-          buffer_short = false;
         }))
         ts (set ts i (with_credits K m after (turned K.switch m.marked batch)), done)
 
