@@ -3,8 +3,9 @@ use Rattle.std.proofs.Common.{◌≡◌, ℕ, ◌<◌, Bool, true, false, cond, 
 use Rattle.columnar.specs.declared.refusal.Refusal.{Refusal}
 use Rattle.columnar.specs.declared.refusal.Refusal.TheVariants.{BitsOutOfBytes, MaskLength, Offsets, SpanOrder, TooManyRows, IndexCount, FilterLength, TotalBelowKept, TotalAboveLimit, IndexAboveTotal, GroupNotNamed, TooManyPairs, TooManyGroups, ShortBuffer}
 use Rattle.columnar.specs.Refusals.{number_of}
-use Rattle.groups.specs.Tally.{Conditions, holds, in_line, foremost}
-use Rattle.groups.specs.InLine.{asked}
+use Rattle.groups.specs.Tally.{Conditions, holds, in_line}
+use Rattle.std.specs.List.{AllByRecursion, find}
+use Rattle.groups.proofs.Accepting.{peel}
 
 abbrev In : Refusal → List Refusal → Type 0
 In q [] = ⊥
@@ -12,8 +13,7 @@ In q (r ∷ rs) = (r ≡ q) ⊎ In q rs
 
 -- each number is below those that come later
 abbrev Before : ℕ → List Refusal → Type 0
-Before n [] = Unit {0}
-Before n (r ∷ rs) = (n < number_of r) × Before n rs
+Before n rs = AllByRecursion (λ r. n < number_of r) rs
 
 abbrev Rising : List Refusal → Type 0
 Rising [] = Unit {0}
@@ -28,29 +28,25 @@ came : (b : Bool) (x r : Refusal) (rest : Option Refusal) → cond b (Some x) re
 came true x r rest e = inl (refl, cc)
 came false x r rest e = inr (refl, e)
 
-left_over : (b : Bool) (x : Refusal) (rest : Option Refusal) → cond b (Some x) rest ≡ None → (b ≡ false) × (rest ≡ None)
-left_over true x rest e = let z : ◌≡◌ {A = ℕ} 0 1 = cc in absurd (omega arith)
-left_over false x rest e = (refl, e)
+pub find_holds : (h : Refusal → Bool) (rs : List Refusal) (r : Refusal) → find h rs ≡ Some r → h r ≡ true
+find_holds h [] r e = absurd (cc)
+find_holds h (x ∷ xs) r e = ⊎_elim (λ w. ap h (sym w.1) ∙ w.0) (λ w. find_holds h xs r w.1) (came (h x) x r (find h xs) e)
 
-pub foremost_holds : (h : Refusal → Bool) (rs : List Refusal) (r : Refusal) → foremost (asked h rs) ≡ Some r → h r ≡ true
-foremost_holds h [] r e = let z : ◌≡◌ {A = ℕ} 0 1 = cc in absurd (omega arith)
-foremost_holds h (x ∷ xs) r e = ⊎_elim (λ w. ap h (sym w.1) ∙ w.0) (λ w. foremost_holds h xs r w.1) (came (h x) x r (foremost (asked h xs)) e)
-
-pub foremost_first : (h : Refusal → Bool) (rs : List Refusal) (r q : Refusal) → Rising rs → foremost (asked h rs) ≡ Some r → In q rs → number_of q < number_of r → h q ≡ false
-foremost_first h [] r q up e there lower = absurd there
-foremost_first h (x ∷ xs) r q up e there lower =
+pub find_first : (h : Refusal → Bool) (rs : List Refusal) (r q : Refusal) → Rising rs → find h rs ≡ Some r → In q rs → number_of q < number_of r → h q ≡ false
+find_first h [] r q up e there lower = absurd there
+find_first h (x ∷ xs) r q up e there lower =
     ⊎_elim
     (λ w.
     let lowest : number_of q < number_of x = subst (λ k. number_of q < number_of k) (sym w.1) lower in
     absurd (⊎_elim (λ is. let same : number_of x ≡ number_of q = ap number_of is in omega arith) (λ later. omega (arith, before_in (number_of x) xs q up.0 later)) there))
-    (λ w. ⊎_elim (λ is. ap h (sym is) ∙ w.0) (λ later. foremost_first h xs r q up.1 w.1 later lower) there)
-    (came (h x) x r (foremost (asked h xs)) e)
+    (λ w. ⊎_elim (λ is. ap h (sym is) ∙ w.0) (λ later. find_first h xs r q up.1 w.1 later lower) there)
+    (came (h x) x r (find h xs) e)
 
-pub foremost_none : (h : Refusal → Bool) (rs : List Refusal) (q : Refusal) → foremost (asked h rs) ≡ None → In q rs → h q ≡ false
-foremost_none h [] q e there = absurd there
-foremost_none h (x ∷ xs) q e there =
-    let w = left_over (h x) x (foremost (asked h xs)) e in
-    ⊎_elim (λ is. ap h (sym is) ∙ w.0) (λ later. foremost_none h xs q w.1 later) there
+pub find_none : (h : Refusal → Bool) (rs : List Refusal) (q : Refusal) → find h rs ≡ None → In q rs → h q ≡ false
+find_none h [] q e there = absurd there
+find_none h (x ∷ xs) q e there =
+    let w = peel (h x) x (find h xs) e in
+    ⊎_elim (λ is. ap h (sym is) ∙ w.0) (λ later. find_none h xs q w.1 later) there
 
 -- each refusal is in line, or holds of no call
 pub placed : (c : Conditions) (q : Refusal) → In q in_line ⊎ (holds c q ≡ false)

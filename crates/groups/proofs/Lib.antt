@@ -1,6 +1,5 @@
 pub mod Accepting
-pub mod CheckLoops
-pub mod Fronts
+pub mod Fills
 pub mod InLines
 pub mod Marking
 pub mod NamedGroups

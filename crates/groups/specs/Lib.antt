@@ -2,6 +2,7 @@ pub mod Lists
 pub mod Kind
 pub mod Emits
 pub mod Tally
+pub mod Handing
 pub mod Moves
 pub mod Named
 pub mod Lines

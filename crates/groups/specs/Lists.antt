@@ -2,11 +2,11 @@
 --
 --     change f n xs      the element at a place, changed; a place past the end changes nothing
 --     deal f es xs       entries dealt in order, each to the place that it names
---     zip xs ys          the pairs of two lists, place by place
 --     has n ns           whether a number is in a list
 --     all_below n ns     whether each is below n
 --     names_from a k ns  whether the k numbers from a on are all in the list
-use Rattle.std.specs.Prelude.{ℕ, zero, suc, Bool, true, false, ◌&&◌, ◌||◌, List, [], ◌∷◌, ◌==◌, nat_lt}
+use Rattle.std.specs.Prelude.{ℕ, zero, suc, Bool, true, ◌&&◌, List, [], ◌∷◌, ◌==◌, nat_lt}
+use Rattle.std.specs.List.{list_any, list_all}
 
 abbrev pub change : {A : Type 0} → (A → A) → ℕ → List A → List A
 change f n [] = []
@@ -17,18 +17,11 @@ abbrev pub deal : {X A : Type 0} → (A → X → A) → List (ℕ × X) → Lis
 deal f [] xs = xs
 deal f (e ∷ es) xs = deal f es (change (λ a. f a e.1) e.0 xs)
 
-abbrev pub zip : {A B : Type 0} → List A → List B → List (A × B)
-zip [] ys = []
-zip (x ∷ xs) [] = []
-zip (x ∷ xs) (y ∷ ys) = (x, y) ∷ zip xs ys
-
 abbrev pub has : ℕ → List ℕ → Bool
-has n [] = false
-has n (m ∷ ms) = n == m || has n ms
+has n ms = list_any (λ m. n == m) ms
 
 abbrev pub all_below : ℕ → List ℕ → Bool
-all_below n [] = true
-all_below n (m ∷ ms) = nat_lt m n && all_below n ms
+all_below n ms = list_all (λ m. nat_lt m n) ms
 
 abbrev pub names_from : ℕ → ℕ → List ℕ → Bool
 names_from from zero ms = true

@@ -2,9 +2,11 @@
 --
 --     is_plain s              whether the switch is plain
 --     in_force plain n ms     the marks of the n kept groups: while the switch is plain each counts as marked
+--     kept_marks s            those of a state of marks
 use Rattle.std.specs.Prelude.{ℕ, Bool, true, false, List, take, replicate}
 use Rattle.groups.specs.declared.null_state.SeenValues.{SeenValues}
 use Rattle.groups.specs.declared.null_state.SeenValues.TheVariants.{All, Marked}
+use Rattle.groups.specs.declared.null_state.NullState.{NullState}
 
 abbrev pub is_plain : SeenValues → Bool
 is_plain All = true
@@ -13,3 +15,6 @@ is_plain Marked = false
 abbrev pub in_force : Bool → ℕ → List Bool → List Bool
 in_force true kept marks = replicate kept true
 in_force false kept marks = take kept marks
+
+abbrev pub kept_marks : NullState → List Bool
+kept_marks s = in_force (is_plain s.seen_values) s.kept s.marks.now

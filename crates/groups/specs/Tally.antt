@@ -4,18 +4,19 @@
 --     Limits           the most rows of a batch, groups and pairs
 --     fresh l          the meaning of an accumulator that is made
 --     Conditions       which of the refusals 5 to 14 hold of a call; one that a call does not look for is false
+--     none_hold        none of them holds
 --     holds c r        the condition of a refusal
 --     in_line          the refusals of calls, in the order in line
 --     refusal c        the first of them in line
 --     unless r a b     b where nothing is refused, else a
 --     X-refusal, and what an accepted call gives: updated, merged, answer, peeked, removed, converted
-use Rattle.std.specs.Prelude.{ℕ, ◌-◌, Bool, true, false, cond, not, ◌&&◌, ◌||◌, List, [], ◌∷◌, ◌++◌, map, length, replicate, is_some, Some, None, sum_by, Option, ◌==◌, nat_lt}
+use Rattle.std.specs.Prelude.{ℕ, ◌-◌, Bool, true, false, cond, not, ◌&&◌, ◌||◌, List, [], ◌∷◌, ◌++◌, map, length, replicate, is_some, Some, None, sum_by, zip, Option, ◌==◌, nat_lt}
 use Rattle.columnar.specs.declared.refusal.Refusal.{Refusal}
 use Rattle.columnar.specs.declared.refusal.Refusal.TheVariants.{BitsOutOfBytes, MaskLength, Offsets, SpanOrder, TooManyRows, IndexCount, FilterLength, TotalBelowKept, TotalAboveLimit, IndexAboveTotal, GroupNotNamed, TooManyPairs, TooManyGroups, ShortBuffer}
 use Rattle.columnar.specs.Cells.{Cell, Column, Ticks, seen, handed, passes, nulls}
 use Rattle.buffers.specs.Memory.{Layout, Room, short}
 use Rattle.groups.specs.declared.emit.EmitTo.{EmitTo}
-use Rattle.groups.specs.Lists.{deal, zip, all_below, names_from}
+use Rattle.groups.specs.Lists.{deal, all_below, names_from}
 use Rattle.groups.specs.Emits.{taken, others, too_many, resets}
 use Rattle.groups.specs.Kind.{Kind, Switch, by_nulls, always_marked, always_plain, read}
 
@@ -95,9 +96,9 @@ refusal c =
     ∷ (c.buffer_short, ShortBuffer)
     ∷ [])
 
--- 13 and 14 alone
-abbrev pub emit_conditions : Bool → Bool → Conditions
-emit_conditions many small =
+-- none of them
+abbrev pub none_hold : Conditions
+none_hold =
     record {
       too_many_rows = false;
       indices_differ = false;
@@ -107,25 +108,17 @@ emit_conditions many small =
       index_above = false;
       not_named = false;
       too_many_pairs = false;
-      too_many_groups = many;
-      buffer_short = small;
+      too_many_groups = false;
+      buffer_short = false;
     }
+
+-- 13 and 14 alone
+abbrev pub emit_conditions : Bool → Bool → Conditions
+emit_conditions many small = record none_hold { too_many_groups = many; buffer_short = small }
 
 -- 5, 7 and 14 alone
 abbrev pub convert_conditions : Bool → Bool → Bool → Conditions
-convert_conditions many differ small =
-    record {
-      too_many_rows = many;
-      indices_differ = false;
-      filter_differs = differ;
-      total_below = false;
-      total_above = false;
-      index_above = false;
-      not_named = false;
-      too_many_pairs = false;
-      too_many_groups = false;
-      buffer_short = small;
-    }
+convert_conditions many differ small = record none_hold { too_many_rows = many; filter_differs = differ; buffer_short = small }
 
 -- a refused call changes nothing
 abbrev pub unless : {A : Type 0} → Option Refusal → A → A → A
@@ -181,7 +174,7 @@ module _ {V S O : Type 0} (K : Kind V S O) where
 
   -- the same limits, other credits and another switch
   abbrev pub with_credits : Means → List K.Credit → Bool → Means
-  with_credits m cs b = record { credits = cs; marked = b; most_rows = m.most_rows; most_groups = m.most_groups; most_pairs = m.most_pairs }
+  with_credits m cs b = record m { credits = cs; marked = b }
 
   -- empty credits up to the total
   abbrev pub opened : Means → ℕ → List K.Credit
@@ -195,7 +188,7 @@ module _ {V S O : Type 0} (K : Kind V S O) where
   -- 5 to 12 for n rows, of which these credits would come
   abbrev pub batch_conditions : Means → ℕ → Ticks → List ℕ → ℕ → List K.Credit → Conditions
   batch_conditions m n filter groups total after =
-      record {
+      record none_hold {
         too_many_rows = nat_lt m.most_rows n;
         indices_differ = not (n == length groups);
         filter_differs = differs filter n;
@@ -204,8 +197,6 @@ module _ {V S O : Type 0} (K : Kind V S O) where
         index_above = not (all_below total groups);
         not_named = not (names_from (length m.credits) (total - length m.credits) groups);
         too_many_pairs = nat_lt m.most_pairs (sum_by K.pairs after);
-        too_many_groups = false;
-        buffer_short = false;
       }
 
   abbrev pub update_refusal : Means → List (Cell V) → Ticks → List ℕ → ℕ → Option Refusal

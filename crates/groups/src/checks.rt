@@ -1,7 +1,7 @@
-ghost use Rattle.std.specs.Prelude.{◌≡◌, ℕ, ◌+◌, ◌-◌, ◌<◌, ◌≤◌, Bool, true, false, not, List, [], ◌∷◌, length, take, Decides, slice_index_or, ◌==◌, nat_lt};
+ghost use Rattle.std.specs.Prelude.{◌≡◌, ◌-◌, ◌<◌, ◌≤◌, not, [], ◌∷◌, length, take, drop, ◌==◌, nat_lt};
 ghost use Rattle.std.specs.Option.{unwrap_or};
 ghost use Rattle.std.specs.Result.{result_err};
-ghost use Rattle.std.specs.List.{AllByRecursion};
+ghost use Rattle.std.specs.List.{AllByRecursion, list_all};
 ghost use Rattle.groups.specs.Lists.{all_below, names_from};
 ghost use Rattle.groups.specs.Lines.{batch_line};
 ghost use Rattle.groups.specs.Named.{named_marks};
@@ -9,52 +9,25 @@ ghost use Rattle.groups.specs.InLine.{FirstByNumber};
 ghost use Rattle.groups.specs.Tally.{foremost, refusal};
 ghost use Rattle.columnar.specs.declared.refusal.Refusal.TheVariants.{TooManyRows, IndexCount, FilterLength, TotalBelowKept, TotalAboveLimit, IndexAboveTotal};
 
+use crate::limits::BatchLimits;
 use crate::moves::fill_part;
 use columnar::refusal::Refusal;
+
+/// A batch as it is handed over: how many rows it has, the group of each, the length of a filter that is given, and how
+/// many groups there are to be.
+#[derive(Clone, Copy)]
+pub struct Batch<'a> {
+    pub rows: usize,
+    pub group_indices: &'a [usize],
+    pub ticked: Option<usize>,
+    pub total: usize,
+}
 
 /// Whether each group index is below the total.
 fn all_below(group_indices: &[usize], total: usize) -> bool
     ensures { result ≡ all_below total group_indices.now }
 {
-    for group in group_indices {
-        if *group >= total {
-            return false;
-        }
-    }
-    true
-}
-
-/// The refusals of a batch that need no memory, 5 to 10, in their order. `ticked` is the length of a filter that is given.
-fn refuse_batch(
-    most_rows: usize,
-    most_groups: usize,
-    kept: usize,
-    rows: usize,
-    group_indices: &[usize],
-    ticked: Option<usize>,
-    total: usize,
-) -> Result<(), Refusal>
-    ensures { result_err result ≡ foremost ((nat_lt most_rows rows, TooManyRows) ∷ (not (rows == length group_indices.now), IndexCount) ∷ (not (unwrap_or ticked rows == rows), FilterLength) ∷ (nat_lt total kept, TotalBelowKept) ∷ (nat_lt most_groups total, TotalAboveLimit) ∷ (not (all_below total group_indices.now), IndexAboveTotal) ∷ []) }
-{
-    if rows > most_rows {
-        return Err(Refusal::TooManyRows);
-    }
-    if rows != group_indices.len() {
-        return Err(Refusal::IndexCount);
-    }
-    if ticked.unwrap_or(rows) != rows {
-        return Err(Refusal::FilterLength);
-    }
-    if total < kept {
-        return Err(Refusal::TotalBelowKept);
-    }
-    if total > most_groups {
-        return Err(Refusal::TotalAboveLimit);
-    }
-    if !all_below(group_indices, total) {
-        return Err(Refusal::IndexAboveTotal);
-    }
-    Ok(())
+    group_indices.iter().all(|group| *group < total)
 }
 
 /// Sets a mark for each group that is named and not kept yet.
@@ -71,19 +44,16 @@ fn mark_named(marks: &mut [bool], group_indices: &[usize], kept: usize)
 
 /// Whether each mark from `from` up to `to` is set.
 fn all_set(marks: &[bool], from: usize, to: usize) -> bool
-    requires { to ≤ length marks.now }
-    ensures { Decides result ((k : ℕ) → from ≤ k → k < to → slice_index_or marks.now k false ≡ true) }
+    requires order { from ≤ to }
+    requires within { to ≤ length marks.now }
+    ensures { result ≡ list_all (λ mark. mark) (take (to - from) (drop from marks.now)) }
 {
-    for i in from..to {
-        if !marks[i] {
-            return false;
-        }
-    }
-    true
+    marks[from..to].iter().all(|mark| *mark)
 }
 
 /// Whether each group from `kept` up to `total` is named by a row, in time linear in rows and groups.
 /// The marks from `kept` up to `total` serve as a table; those of the kept groups stay.
+#[tactic(auto, using(crate::proofs::NamedGroups::names_answer, crate::proofs::NamedGroups::table_front))]
 fn names_all(marks: &mut [bool], group_indices: &[usize], kept: usize, total: usize) -> bool
     requires order { kept ≤ total }
     requires within { total ≤ length marks.old }
@@ -96,39 +66,53 @@ fn names_all(marks: &mut [bool], group_indices: &[usize], kept: usize, total: us
     all_set(marks, kept, total)
 }
 
-/// Decides the refusals 5 to 11 of a batch, in their order. Of the marks, those of the kept groups stay.
-pub fn refuse(
-    most_rows: usize,
-    most_groups: usize,
-    kept: usize,
-    rows: usize,
-    group_indices: &[usize],
-    ticked: Option<usize>,
-    total: usize,
-    marks: &mut [bool],
-) -> Result<(), Refusal>
-    requires { most_groups ≤ length marks.old }
-    ensures answer { result_err result ≡ refusal (batch_line most_rows most_groups kept rows group_indices.now ticked total) }
-    ensures marks { take kept marks.new ≡ take kept marks.old }
-{
-    refuse_batch(
-        most_rows,
-        most_groups,
-        kept,
-        rows,
-        group_indices,
-        ticked,
-        total,
-    )?;
-    if !names_all(marks, group_indices, kept, total) {
-        return Err(Refusal::GroupNotNamed);
+impl Batch<'_> {
+    /// The refusals that need no memory, 5 to 10, in their order.
+    fn refuse_early(&self, limits: BatchLimits, kept: usize) -> Result<(), Refusal>
+        ensures { result_err result ≡ foremost ((nat_lt limits.rows self.now.rows, TooManyRows) ∷ (not (self.now.rows == length self.now.group_indices.now), IndexCount) ∷ (not (unwrap_or self.now.ticked self.now.rows == self.now.rows), FilterLength) ∷ (nat_lt self.now.total kept, TotalBelowKept) ∷ (nat_lt limits.groups self.now.total, TotalAboveLimit) ∷ (not (all_below self.now.total self.now.group_indices.now), IndexAboveTotal) ∷ []) }
+    {
+        if self.rows > limits.rows {
+            return Err(Refusal::TooManyRows);
+        }
+        if self.rows != self.group_indices.len() {
+            return Err(Refusal::IndexCount);
+        }
+        if self.ticked.unwrap_or(self.rows) != self.rows {
+            return Err(Refusal::FilterLength);
+        }
+        if self.total < kept {
+            return Err(Refusal::TotalBelowKept);
+        }
+        if self.total > limits.groups {
+            return Err(Refusal::TotalAboveLimit);
+        }
+        if !all_below(self.group_indices, self.total) {
+            return Err(Refusal::IndexAboveTotal);
+        }
+        Ok(())
     }
-    Ok(())
+
+    /// Decides the refusals 5 to 11 of a batch, in their order. Of the marks, those of the kept groups stay.
+    #[tactic(auto, using(crate::proofs::Accepting::accepted))]
+    pub fn refuse(
+        &self,
+        limits: BatchLimits,
+        kept: usize,
+        marks: &mut [bool],
+    ) -> Result<(), Refusal>
+        requires { limits.groups ≤ length marks.old }
+        ensures answer { result_err result ≡ refusal (batch_line limits.rows limits.groups kept self.now.rows self.now.group_indices.now self.now.ticked self.now.total) }
+        ensures marks { take kept marks.new ≡ take kept marks.old }
+    {
+        self.refuse_early(limits, kept)?;
+        if !names_all(marks, self.group_indices, kept, self.total) {
+            return Err(Refusal::GroupNotNamed);
+        }
+        Ok(())
+    }
 }
 
 /// Of a call's refusals, the one that is answered is the first by number whose condition holds.
-pub fn first_by_number() -> u8
+pub fn first_by_number()
     ensures { FirstByNumber }
-{
-    0
-}
+{}

@@ -2,6 +2,7 @@ ghost use Rattle.std.specs.Prelude.{◌≡◌};
 ghost use Rattle.groups.specs.Emits.{count_of};
 
 /// Which groups an answer has: all, or the first n.
+// The Rust's own enum: an `Option` of a number would not say that `All` makes the switch plain again.
 #[derive(Clone, Copy, PartialEq, Eq, Debug)]
 pub enum EmitTo {
     All,

@@ -1,10 +1,9 @@
 ghost use Rattle.std.specs.Prelude.{◌≡◌};
 ghost use Rattle.std.specs.Result.{result_err};
-ghost use Rattle.columnar.specs.Cells.{cells};
 ghost use Rattle.columnar.specs.Views.{ticks};
-ghost use Rattle.buffers.specs.Memory.{stored};
 ghost use Rattle.groups.specs.Kind.{Kind, Laws, Commutes};
 ghost use Rattle.groups.specs.Tally.{Means, unless, update_refusal, updated, merge_refusal, merged, evaluate_refusal, answer, peek_refusal, peeked, forget_refusal, removed, convert_refusal, converted};
+ghost use Rattle.groups.specs.Handing.{places, rows_in, HandsOut};
 
 use crate::emit::EmitTo;
 use buffers::buffers::Buffers;
@@ -74,8 +73,8 @@ pub trait GroupsAccumulator<'a> {
     ) -> Result<(), Refusal>
         requires sound { sound self.old }
         ensures stays { sound self.new }
-        ensures answer { result_err result ≡ merge_refusal kind (meaning self.old) (cells (Self.StateBuffers.Buffers.readable (Self.StateBuffers.Buffers.memory written.now))) group_indices.now total_num_groups }
-        ensures after { meaning self.new ≡ unless (result_err result) (meaning self.old) (merged kind (meaning self.old) (cells (Self.StateBuffers.Buffers.readable (Self.StateBuffers.Buffers.memory written.now))) group_indices.now total_num_groups) };
+        ensures answer { result_err result ≡ merge_refusal kind (meaning self.old) (rows_in Self.StateBuffers.Buffers written.now) group_indices.now total_num_groups }
+        ensures after { meaning self.new ≡ unless (result_err result) (meaning self.old) (merged kind (meaning self.old) (rows_in Self.StateBuffers.Buffers written.now) group_indices.now total_num_groups) };
 
     /// Writes each row's credit as a state row, and changes nothing; a row that is not let through gives the empty credit.
     fn convert_to_state(
@@ -85,22 +84,22 @@ pub trait GroupsAccumulator<'a> {
         out: &mut Self::StateBuffers,
     ) -> Result<(), Refusal>
         requires sound { sound self.now }
-        ensures answer { result_err result ≡ convert_refusal kind Self.StateBuffers.Buffers.layout (meaning self.now) (Self.Values.Rows.cells values.now) (ticks opt_filter.now) (Self.StateBuffers.Buffers.room (Self.StateBuffers.Buffers.memory out.old)) }
-        ensures written { Self.StateBuffers.Buffers.memory out.new ≡ unless (result_err result) (Self.StateBuffers.Buffers.memory out.old) (stored Self.StateBuffers.Buffers.masks Self.StateBuffers.Buffers.figures (converted kind (Self.Values.Rows.cells values.now) (ticks opt_filter.now)) (Self.StateBuffers.Buffers.memory out.old)) };
+        ensures answer { result_err result ≡ convert_refusal kind Self.StateBuffers.Buffers.layout (meaning self.now) (Self.Values.Rows.cells values.now) (ticks opt_filter.now) (places Self.StateBuffers.Buffers out.old) }
+        ensures written { HandsOut Self.StateBuffers.Buffers (result_err result) (converted kind (Self.Values.Rows.cells values.now) (ticks opt_filter.now)) out.old out.new };
 
     /// Shows the groups asked for, and removes them.
     fn evaluate(&mut self, emit_to: EmitTo, out: &mut Self::Answers) -> Result<(), Refusal>
         requires sound { sound self.old }
         ensures stays { sound self.new }
-        ensures answer { result_err result ≡ evaluate_refusal kind Self.Answers.Buffers.layout (meaning self.old) emit_to (Self.Answers.Buffers.room (Self.Answers.Buffers.memory out.old)) }
+        ensures answer { result_err result ≡ evaluate_refusal kind Self.Answers.Buffers.layout (meaning self.old) emit_to (places Self.Answers.Buffers out.old) }
         ensures after { meaning self.new ≡ unless (result_err result) (meaning self.old) (removed kind (meaning self.old) emit_to) }
-        ensures written { Self.Answers.Buffers.memory out.new ≡ unless (result_err result) (Self.Answers.Buffers.memory out.old) (stored Self.Answers.Buffers.masks Self.Answers.Buffers.figures (answer kind (meaning self.old) emit_to) (Self.Answers.Buffers.memory out.old)) };
+        ensures written { HandsOut Self.Answers.Buffers (result_err result) (answer kind (meaning self.old) emit_to) out.old out.new };
 
     /// Writes the state rows of the groups asked for, and removes nothing.
     fn peek(&self, emit_to: EmitTo, out: &mut Self::StateBuffers) -> Result<(), Refusal>
         requires sound { sound self.now }
-        ensures answer { result_err result ≡ peek_refusal kind Self.StateBuffers.Buffers.layout (meaning self.now) emit_to (Self.StateBuffers.Buffers.room (Self.StateBuffers.Buffers.memory out.old)) }
-        ensures written { Self.StateBuffers.Buffers.memory out.new ≡ unless (result_err result) (Self.StateBuffers.Buffers.memory out.old) (stored Self.StateBuffers.Buffers.masks Self.StateBuffers.Buffers.figures (peeked kind (meaning self.now) emit_to) (Self.StateBuffers.Buffers.memory out.old)) };
+        ensures answer { result_err result ≡ peek_refusal kind Self.StateBuffers.Buffers.layout (meaning self.now) emit_to (places Self.StateBuffers.Buffers out.old) }
+        ensures written { HandsOut Self.StateBuffers.Buffers (result_err result) (peeked kind (meaning self.now) emit_to) out.old out.new };
 
     /// Removes the groups asked for, and writes nothing.
     fn forget(&mut self, emit_to: EmitTo) -> Result<(), Refusal>
@@ -113,11 +112,12 @@ pub trait GroupsAccumulator<'a> {
 /// An accumulator whose kind commutes: the join of two credits is alike in either order. What is credited to a group may
 /// then be taken in any order.
 pub trait Commuting<'a>: GroupsAccumulator<'a> {
-    fn commutes(&self) -> u8
+    fn commutes()
         ensures { Commutes Self.GroupsAccumulator.kind };
 }
 
 /// Writes the state rows of the groups asked for, and removes them: a peek, and then a forgetting.
+// It stands beside the trait, since a trait with a lifetime parameter can give no method its body.
 pub fn state<'a, T: GroupsAccumulator<'a>>(
     accumulator: &mut T,
     emit_to: EmitTo,
@@ -125,11 +125,10 @@ pub fn state<'a, T: GroupsAccumulator<'a>>(
 ) -> Result<(), Refusal>
     requires sound { T.GroupsAccumulator.sound accumulator.old }
     ensures stays { T.GroupsAccumulator.sound accumulator.new }
-    ensures answer { result_err result ≡ peek_refusal T.GroupsAccumulator.kind T.StateBuffers.Buffers.layout (T.GroupsAccumulator.meaning accumulator.old) emit_to (T.StateBuffers.Buffers.room (T.StateBuffers.Buffers.memory out.old)) }
+    ensures answer { result_err result ≡ peek_refusal T.GroupsAccumulator.kind T.StateBuffers.Buffers.layout (T.GroupsAccumulator.meaning accumulator.old) emit_to (places T.StateBuffers.Buffers out.old) }
     ensures after { T.GroupsAccumulator.meaning accumulator.new ≡ unless (result_err result) (T.GroupsAccumulator.meaning accumulator.old) (removed T.GroupsAccumulator.kind (T.GroupsAccumulator.meaning accumulator.old) emit_to) }
-    ensures written { T.StateBuffers.Buffers.memory out.new ≡ unless (result_err result) (T.StateBuffers.Buffers.memory out.old) (stored T.StateBuffers.Buffers.masks T.StateBuffers.Buffers.figures (peeked T.GroupsAccumulator.kind (T.GroupsAccumulator.meaning accumulator.old) emit_to) (T.StateBuffers.Buffers.memory out.old)) }
+    ensures written { HandsOut T.StateBuffers.Buffers (result_err result) (peeked T.GroupsAccumulator.kind (T.GroupsAccumulator.meaning accumulator.old) emit_to) out.old out.new }
 {
     accumulator.peek(emit_to, out)?;
-    let _ = accumulator.forget(emit_to);
-    Ok(())
+    accumulator.forget(emit_to)
 }

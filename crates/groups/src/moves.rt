@@ -1,14 +1,16 @@
-ghost use Rattle.std.specs.Prelude.{◌≡◌, ◌-◌, ◌≤◌, length};
+ghost use Rattle.std.specs.Prelude.{◌≡◌, ◌≤◌, length};
 ghost use Rattle.groups.specs.Moves.{refilled, moved_down};
 
 /// Writes `x` over the places from `from` up to `to`.
+// The library's `fill` asks that no clone fails, which of a `Copy` type alone is not known.
+#[tactic(auto, using(crate::proofs::Fills::filled_more))]
 pub fn fill_part<T: Copy>(slots: &mut [T], from: usize, to: usize, x: T)
     requires order { from ≤ to }
     requires within { to ≤ length slots.old }
     ensures { slots.new ≡ refilled slots.old from to x }
 {
-    for i in from..to {
-        slots[i] = x;
+    for slot in &mut slots[from..to] {
+        *slot = x;
     }
 }
 
@@ -18,7 +20,5 @@ pub fn move_down<T: Copy>(slots: &mut [T], n: usize, kept: usize)
     requires within { kept ≤ length slots.old }
     ensures { slots.new ≡ moved_down slots.old n kept }
 {
-    for i in 0..kept - n {
-        slots[i] = slots[n + i];
-    }
+    slots.copy_within(n..kept, 0);
 }

@@ -1,5 +1,6 @@
 -- What an accepted call has, what a batch without filter and nulls is, and what columns say.
-use Rattle.std.proofs.Common.{◌≡◌, ℕ, suc, ◌+◌, ◌-◌, ◌≤◌, Bool, true, false, cond, not, eqb, ltb, List, [], ◌∷◌, map, length, is_some, Some, None, sum_by, Option, refl, ap, arith}
+use Rattle.std.proofs.Common.{◌≡◌, ℕ, ◌+◌, ◌-◌, ◌≤◌, Bool, true, false, cond, not, eqb, ltb, List, [], ◌∷◌, map, length, is_some, Some, None, sum_by, Option, refl, ap, arith}
+use Rattle.std.specs.Prelude.{zip}
 use Rattle.std.specs.List.{AllByRecursion}
 use Rattle.std.proofs.lemmas.Bool.{not-false, cond-true, false≢true, eqb-true, ltb-false, le-ltb}
 use Rattle.std.proofs.lemmas.List.Sums.{sum_by-cons}
@@ -7,20 +8,17 @@ use Rattle.columnar.specs.Cells.{Cell, Ticks, cell, over, handed, cells, masked_
 use Rattle.groups.specs.declared.emit.EmitTo.{EmitTo}
 use Rattle.groups.specs.declared.emit.EmitTo.TheVariants.{All as Whole, First}
 use Rattle.groups.specs.Emits.{count_of, too_many}
-use Rattle.groups.specs.Lists.{zip, all_below, names_from}
+use Rattle.groups.specs.Lists.{all_below, names_from}
 use Rattle.groups.specs.Kind.{Kind}
-use Rattle.groups.specs.Tally.{Means, Conditions, refusal, batch_conditions, emit_conditions, differs, row_entries}
+use Rattle.groups.specs.Tally.{Means, Conditions, none_hold, refusal, batch_conditions, emit_conditions, differs, row_entries}
+use Rattle.groups.proofs.Accepting.{peel}
 use Rattle.turns.proofs.Deals.{heads}
 
 -- ── accepted calls ───────────────────────────────────────────────────────
-peel : {E : Type 0} (b : Bool) (e : E) (rest : Option E) → cond b (Some e) rest ≡ None → (b ≡ false) × (rest ≡ None)
-peel true e rest h = let z : ◌≡◌ {A = ℕ} 0 1 = cc in absurd (omega arith)
-peel false e rest h = (refl, h)
-
 -- neither 6 nor 8 nor 11
 abbrev of_batch : Bool → Bool → Bool → Bool → Bool → Bool → Bool → Bool → Conditions
 of_batch rows indices ticks below above index named pairs =
-    record {
+    record none_hold {
       too_many_rows = rows;
       indices_differ = indices;
       filter_differs = ticks;
@@ -29,8 +27,6 @@ of_batch rows indices ticks below above index named pairs =
       index_above = index;
       not_named = named;
       too_many_pairs = pairs;
-      too_many_groups = false;
-      buffer_short = false;
     }
 
 through : (rows indices ticks below above index named pairs : Bool) → refusal (of_batch rows indices ticks below above index named pairs) ≡ None
@@ -63,14 +59,11 @@ within Whole kept short h = omega arith
 within (First n) kept short h = ltb-false kept n (peel (ltb kept n) _ _ h).0
 
 -- ── batches without filter and nulls ─────────────────────────────────────
-suc_same : (a b : ℕ) → suc a ≡ suc b → a ≡ b
-suc_same a b e = omega arith
-
 pub entries_heads : {V : Type 0} (rows : List (Cell V)) (gs : List ℕ) → length rows ≡ length gs → heads (row_entries rows None gs) ≡ gs
 entries_heads [] [] e = refl
 entries_heads [] (g ∷ gs) e = absurd (omega arith)
 entries_heads (r ∷ rs) [] e = absurd (omega arith)
-entries_heads (r ∷ rs) (g ∷ gs) e = ap (λ l. g ∷ l) (entries_heads rs gs (suc_same _ _ e))
+entries_heads (r ∷ rs) (g ∷ gs) e = ap (λ l. g ∷ l) (entries_heads rs gs (omega arith))
 
 pub nulls_cons : {X : Type 0} (r : Cell X) (rs : List (Cell X)) → nulls (r ∷ rs) ≡ cond (not r.valid) 1 0 + nulls rs
 nulls_cons r rs = sum_by-cons (λ c. cond (not c.valid) 1 0) r rs
@@ -94,7 +87,7 @@ pub zip_heads : {X : Type 0} (xs : List X) (gs : List ℕ) → length xs ≡ len
 zip_heads [] [] e = refl
 zip_heads [] (g ∷ gs) e = absurd (omega arith)
 zip_heads (r ∷ rs) [] e = absurd (omega arith)
-zip_heads (r ∷ rs) (g ∷ gs) e = ap (λ l. g ∷ l) (zip_heads rs gs (suc_same _ _ e))
+zip_heads (r ∷ rs) (g ∷ gs) e = ap (λ l. g ∷ l) (zip_heads rs gs (omega arith))
 
 pub zip_valid : {X : Type 0} (rows : List (Cell X)) (gs : List ℕ) → ltb 0 (nulls rows) ≡ false → AllByRecursion (λ e. e.1.valid ≡ true) (zip gs rows)
 zip_valid rows [] h = tt

@@ -3,25 +3,23 @@ use Rattle.std.proofs.Common.{◌≡◌, ℕ, zero, suc, ◌+◌, ◌-◌, ◌<�
 use lib.ListN.{length-replicate, length-map, get_or-map}
 use Rattle.std.proofs.lemmas.List.{get_or-drop, get_or-take, length-take-le, append-nil, append_assoc}
 use Rattle.std.proofs.lemmas.Bool.{cases_eq, eq-eqb, ne_eqb, cond-true, cond-false}
+use Rattle.std.specs.Prelude.{zip}
 use Rattle.columnar.specs.Cells.{Cell, Ticks, seen}
 use Rattle.groups.specs.declared.emit.EmitTo.{EmitTo}
 use Rattle.groups.specs.declared.emit.EmitTo.TheVariants.{All, First}
 use Rattle.groups.specs.Emits.{taken, others, count_of}
-use Rattle.groups.specs.Lists.{change, deal, zip}
+use Rattle.groups.specs.Lists.{change, deal}
 use Rattle.groups.specs.Tally.{row_entries}
 use Rattle.turns.specs.Lists.{listed}
 use Rattle.turns.specs.Book.{Bag, Open, Account, Entry, rows_at, bags_at, kept, open_at, grown, front, without, bags_of}
 use Rattle.turns.proofs.Deals.{length_deal, change_same, change_other}
 
 -- ── lists made by places ─────────────────────────────────────────────────
-suc_same : (a b : ℕ) → suc a ≡ suc b → a ≡ b
-suc_same a b e = omega arith
-
 pub listed_from : {A : Type 0} (xs : List A) (n : ℕ) (f : ℕ → A) (d : A) → length xs ≡ n → ((k : ℕ) → k < n → get_or xs k d ≡ f k) → xs ≡ listed n f
 listed_from [] zero f d e h = refl
 listed_from [] (suc n) f d e h = absurd (omega arith)
 listed_from (x ∷ xs) zero f d e h = absurd (omega arith)
-listed_from (x ∷ xs) (suc n) f d e h = λ i. h 0 (omega arith) i ∷ listed_from xs n (λ k. f (suc k)) d (suc_same _ _ e) (λ k l. h (suc k) (omega arith)) i
+listed_from (x ∷ xs) (suc n) f d e h = λ i. h 0 (omega arith) i ∷ listed_from xs n (λ k. f (suc k)) d (omega arith) (λ k l. h (suc k) (omega arith)) i
 
 pub map_listed : {A B : Type 0} (g : A → B) (n : ℕ) (f : ℕ → A) → map g (listed n f) ≡ listed n (λ k. g (f k))
 map_listed g zero f = refl
@@ -106,16 +104,16 @@ module _ {V : Type 0} where
   rows_mine [] None gs g e = refl
   rows_mine [] (Some ts) gs g e = refl
   rows_mine (r ∷ rs) filter [] g e = absurd (omega arith)
-  rows_mine (r ∷ rs) None (k ∷ gs) g e = one_row true g k (seen r) _ _ (rows_mine rs None gs g (suc_same _ _ e))
-  rows_mine (r ∷ rs) (Some []) (k ∷ gs) g e = one_row false g k (seen r) _ _ (rows_mine rs (Some []) gs g (suc_same _ _ e))
-  rows_mine (r ∷ rs) (Some (t ∷ ts)) (k ∷ gs) g e = one_row (t.valid && t.figure) g k (seen r) _ _ (rows_mine rs (Some ts) gs g (suc_same _ _ e))
+  rows_mine (r ∷ rs) None (k ∷ gs) g e = one_row true g k (seen r) _ _ (rows_mine rs None gs g (omega arith))
+  rows_mine (r ∷ rs) (Some []) (k ∷ gs) g e = one_row false g k (seen r) _ _ (rows_mine rs (Some []) gs g (omega arith))
+  rows_mine (r ∷ rs) (Some (t ∷ ts)) (k ∷ gs) g e = one_row (t.valid && t.figure) g k (seen r) _ _ (rows_mine rs (Some ts) gs g (omega arith))
 
   -- and the bags of a merge
   pub bags_mine : (bags : List (Bag V)) (gs : List ℕ) (g : ℕ) → length bags ≡ length gs → mine whole g (zip gs bags) ≡ bags_at bags gs g
   bags_mine [] [] g e = refl
   bags_mine [] (k ∷ gs) g e = absurd (omega arith)
   bags_mine (b ∷ bags) [] g e = absurd (omega arith)
-  bags_mine (b ∷ bags) (k ∷ gs) g e = ap (λ more. cond (eqb k g) b [] ++ more) (bags_mine bags gs g (suc_same _ _ e))
+  bags_mine (b ∷ bags) (k ∷ gs) g e = ap (λ more. cond (eqb k g) b [] ++ more) (bags_mine bags gs g (omega arith))
 
   -- ── accounts ──
   abbrev pub bags_in : Account V → List (Bag V)

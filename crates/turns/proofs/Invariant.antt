@@ -1,7 +1,7 @@
 -- What every turn keeps: each accumulator's credits are alike the joins of its bags, and each row handed out is what its entry says.
 use Rattle.std.proofs.Common.{◌≡◌, ℕ, ◌-◌, ◌<◌, ◌≤◌, Bool, true, false, cond, ◌&&◌, ◌||◌, ltb, List, [], ◌∷◌, ◌++◌, map, length, get_or, set, replicate, is_some, Some, None, Option, sym, refl, ap, ◌∙◌, subst, arith}
 use lib.ListN.{get_or-map}
-use Rattle.std.specs.List.{AllByRecursion}
+use Rattle.std.specs.List.{AllByRecursion, AllZip, zip}
 use Rattle.std.proofs.lemmas.Bool.{or_parts, cond-true, true≢false}
 use Rattle.columnar.specs.declared.refusal.Refusal.{Refusal}
 use Rattle.columnar.specs.Cells.{Cell, Ticks, seen, over, cells, passes, nulls}
@@ -9,10 +9,10 @@ use Rattle.buffers.specs.Memory.{Room, short}
 use Rattle.groups.specs.declared.emit.EmitTo.{EmitTo}
 use Rattle.groups.specs.declared.emit.EmitTo.TheVariants.{All as Whole, First}
 use Rattle.groups.specs.Emits.{taken, others, count_of}
-use Rattle.groups.specs.Lists.{zip, all_below}
+use Rattle.groups.specs.Lists.{all_below}
 use Rattle.groups.specs.Kind.{Kind, Switch, by_nulls, always_marked, always_plain, Laws, Clear, read, joined}
 use Rattle.groups.specs.Tally.{Means, turned, left_by, converts_masked, opened, with_rows, with_states, row_entries, row_credits, update_refusal, updated, merge_refusal, merged, evaluate_refusal, answer, removed, state_column, peeked, peek_refusal, forget_refusal, converted, convert_refusal, fresh}
-use Rattle.turns.specs.Lists.{Each, listed}
+use Rattle.turns.specs.Lists.{listed}
 use Rattle.turns.specs.Turns.{Turn, Outcome, Sent, Layouts, Step, at, nobody, ruled, taken_over, sent_cells, named, called, step}
 use Rattle.turns.specs.Turns.Turn.{update, merge, convert, evaluate, state, peek, forget, hand_over}
 use Rattle.turns.specs.Turns.Outcome.{done, showed, wrote, refused, taker_refused, no_such}
@@ -33,7 +33,7 @@ module _ {V S O : Type 0} (K : Kind V S O) (L : Laws K) where
   Visible marked cs = marked ≡ false → AllByRecursion (Clear K) cs
 
   pub record Fair (m : Means K) (a : Account V) : Type 0 where
-    pub alike : Each Credited m.credits (bags_in a)
+    pub alike : AllZip Credited m.credits (bags_in a)
     pub visible : Visible m.marked m.credits
 
   abbrev pub ShowsEntry : Cell O → Entry V → Type 0
@@ -46,8 +46,8 @@ module _ {V S O : Type 0} (K : Kind V S O) (L : Laws K) where
   Told o entries = Showing K ShowsEntry o entries × Writing K CarriesEntry o entries
 
   pub record Inv (ts : List (Means K)) (past : List (Outcome S O)) (b : Book V) : Type 0 where
-    pub fair : Each Fair ts b.accounts
-    pub told : Each Told past b.entries
+    pub fair : AllZip Fair ts b.accounts
+    pub told : AllZip Told past b.entries
 
   kept_credits : (m : Means K) (a : Account V) → Fair m a → length m.credits ≡ kept a
   kept_credits m a h = each_length Credited m.credits (bags_in a) h.alike ∙ kept_bags a
@@ -75,10 +75,10 @@ module _ {V S O : Type 0} (K : Kind V S O) (L : Laws K) where
   visible_converted always_plain q cs f = all_of (Clear K) (L.plain_clear q) cs
 
   -- ── what an accepted batch keeps ──
-  opened_alike : (cs : List K.Credit) (bs : List (Bag V)) (total : ℕ) → Each Credited cs bs
-      → Each Credited (cs ++ replicate (total - length cs) K.empty) (bs ++ replicate (total - length bs) [])
+  opened_alike : (cs : List K.Credit) (bs : List (Bag V)) (total : ℕ) → AllZip Credited cs bs
+      → AllZip Credited (cs ++ replicate (total - length cs) K.empty) (bs ++ replicate (total - length bs) [])
   opened_alike cs bs total e =
-      subst (λ n. Each Credited (cs ++ replicate (total - length cs) K.empty) (bs ++ replicate (total - n) [])) (each_length Credited cs bs e)
+      subst (λ n. AllZip Credited (cs ++ replicate (total - length cs) K.empty) (bs ++ replicate (total - n) [])) (each_length Credited cs bs e)
       (each_append Credited cs bs _ _ e (each_replicate Credited (total - length cs) K.empty [] (L.alike_refl _)))
 
   update_fair : (m : Means K) (a : Account V) (rows : List (Cell V)) (filter : Ticks) (gs : List ℕ) (total : ℕ) → update_refusal K m rows filter gs total ≡ None
@@ -86,7 +86,7 @@ module _ {V S O : Type 0} (K : Kind V S O) (L : Laws K) where
   update_fair m a rows filter gs total ok h =
       let p = passed K m (length rows) filter gs total (with_rows K m (row_entries rows filter gs) total) ok in
       record {
-        alike = subst (Each Credited (with_rows K m (row_entries rows filter gs) total))
+        alike = subst (AllZip Credited (with_rows K m (row_entries rows filter gs) total))
             (grown_bags alone a (row_entries rows filter gs) total (rows_at rows filter gs) (subst (λ n. n ≤ total) (kept_credits m a h) p.upward) (λ g. rows_mine rows filter gs g p.rows_match))
             (each_deal Credited (λ r s. r ≡ s) (λ c r. K.join c (K.of_row r)) (add_to alone)
             (λ c b r s p q. subst (λ s. Credited (K.join c (K.of_row r)) (b ++ s ∷ [])) q (joined_push K L c b r p))
@@ -109,11 +109,11 @@ module _ {V S O : Type 0} (K : Kind V S O) (L : Laws K) where
   Reads s b = K.Alike (read K s) (joined K b)
 
   merge_fair : (m : Means K) (a : Account V) (rows : List (Cell S)) (bags : List (Bag V)) (gs : List ℕ) (total : ℕ) → merge_refusal K m rows gs total ≡ None
-      → Each Reads rows bags → Fair m a → Fair (merged K m rows gs total) (grown a total (bags_at bags gs))
+      → AllZip Reads rows bags → Fair m a → Fair (merged K m rows gs total) (grown a total (bags_at bags gs))
   merge_fair m a rows bags gs total ok r h =
       let p = passed K m (length rows) None gs total (with_states K m (zip gs rows) total) ok in
       record {
-        alike = subst (Each Credited (with_states K m (zip gs rows) total))
+        alike = subst (AllZip Credited (with_states K m (zip gs rows) total))
             (grown_bags whole a (zip gs bags) total (bags_at bags gs) (subst (λ n. n ≤ total) (kept_credits m a h) p.upward) (λ g. bags_mine bags gs g (sym (each_length Reads rows bags r) ∙ p.rows_match)))
             (each_deal Credited Reads (λ c s. K.join c (read K s)) (add_to whole) (λ c b s x p q. joined_join K L c (read K s) b x p q)
             (zip gs rows) (zip gs bags) (each_zip Reads gs rows bags r) (opened K m total) (bags_in a ++ replicate (total - length (bags_in a)) []) (opened_alike m.credits (bags_in a) total h.alike));
@@ -131,54 +131,54 @@ module _ {V S O : Type 0} (K : Kind V S O) (L : Laws K) where
   removed_fair : (m : Means K) (a : Account V) (e : EmitTo) → Fair m a → Fair (removed K m e) (without a e)
   removed_fair m a e h =
       record {
-        alike = subst (Each Credited (others e m.credits)) (without_bags a e) (each_others Credited e m.credits (bags_in a) h.alike);
+        alike = subst (AllZip Credited (others e m.credits)) (without_bags a e) (each_others Credited e m.credits (bags_in a) h.alike);
         visible = visible_removed K.switch refl e m.marked m.credits h.visible;
       }
 
   -- ── what is handed out ──
-  answer_shows : (m : Means K) (i : ℕ) (a : Account V) (e : EmitTo) → count_of e (length m.credits) ≤ length m.credits → Fair m a → Each ShowsEntry (cells (answer K m e)) (front i a e)
+  answer_shows : (m : Means K) (i : ℕ) (a : Account V) (e : EmitTo) → count_of e (length m.credits) ≤ length m.credits → Fair m a → AllZip ShowsEntry (cells (answer K m e)) (front i a e)
   answer_shows m i a e w h =
       each_unmap (Shows K) (λ n. n.bag) (cells (answer K m e)) (front i a e)
-      (subst (Each (Shows K) (cells (answer K m e))) (front_bags i a e (subst (λ n. count_of e n ≤ n) (kept_credits m a h) w))
-      (subst (λ rows. Each (Shows K) rows (taken e (bags_in a)))
+      (subst (AllZip (Shows K) (cells (answer K m e))) (front_bags i a e (subst (λ n. count_of e n ≤ n) (kept_credits m a h) w))
+      (subst (λ rows. AllZip (Shows K) rows (taken e (bags_in a)))
       (sym (cells_handed K.filler m.marked (map K.shown (taken e m.credits)) (λ f. all_maps (Clear K) (λ o. is_some o ≡ true) K.shown (λ c q. q.0) (taken e m.credits) (all_taken (Clear K) e m.credits (h.visible f)))))
       (each_map (λ o b. o ≡ K.shown (joined K b)) (Shows K) (over K.filler) (λ o b q. ap (over K.filler) q) (map K.shown (taken e m.credits)) (taken e (bags_in a))
       (each_map Credited (λ o b. o ≡ K.shown (joined K b)) K.shown (λ c b q. L.shows _ _ q) (taken e m.credits) (taken e (bags_in a)) (each_taken Credited e m.credits (bags_in a) h.alike)))))
 
-  state_carries : (masked : Bool) (cs : List K.Credit) (bs : List (Bag V)) → Visible masked cs → Each Credited cs bs → Each (Carries K) (cells (state_column K masked cs)) bs
+  state_carries : (masked : Bool) (cs : List K.Credit) (bs : List (Bag V)) → Visible masked cs → AllZip Credited cs bs → AllZip (Carries K) (cells (state_column K masked cs)) bs
   state_carries masked cs bs v h =
-      subst (λ rows. Each (Carries K) rows bs)
+      subst (λ rows. AllZip (Carries K) rows bs)
       (sym (cells_handed K.under masked (map K.written cs) (λ f. all_maps (Clear K) (λ o. is_some o ≡ true) K.written (λ c q. q.1) cs (v f))))
       (each_map (λ o b. Carries K (over K.under o) b) (Carries K) (over K.under) (λ o b q. q) (map K.written cs) bs
       (each_map Credited (λ o b. Carries K (over K.under o) b) K.written (λ c b q. L.alike_trans _ _ _ (L.reads c) q) cs bs h))
 
-  peek_carries : (m : Means K) (i : ℕ) (a : Account V) (e : EmitTo) → count_of e (length m.credits) ≤ length m.credits → Fair m a → Each CarriesEntry (cells (peeked K m e)) (front i a e)
+  peek_carries : (m : Means K) (i : ℕ) (a : Account V) (e : EmitTo) → count_of e (length m.credits) ≤ length m.credits → Fair m a → AllZip CarriesEntry (cells (peeked K m e)) (front i a e)
   peek_carries m i a e w h =
       each_unmap (Carries K) (λ n. n.bag) (cells (peeked K m e)) (front i a e)
-      (subst (Each (Carries K) (cells (peeked K m e))) (front_bags i a e (subst (λ n. count_of e n ≤ n) (kept_credits m a h) w))
+      (subst (AllZip (Carries K) (cells (peeked K m e))) (front_bags i a e (subst (λ n. count_of e n ≤ n) (kept_credits m a h) w))
       (state_carries m.marked (taken e m.credits) (taken e (bags_in a)) (λ f. all_taken (Clear K) e m.credits (h.visible f)) (each_taken Credited e m.credits (bags_in a) h.alike)))
 
   row_alike : (p : Bool) (r : Option V) → Credited (cond p (K.of_row r) K.empty) (cond p (r ∷ []) [])
   row_alike true r = joined_one K L r
   row_alike false r = L.alike_refl _
 
-  converted_alike : (rows : List (Cell V)) (filter : Ticks) → Each Credited (row_credits K (passes filter (length rows)) rows) (listed (length rows) (row_bag rows filter))
+  converted_alike : (rows : List (Cell V)) (filter : Ticks) → AllZip Credited (row_credits K (passes filter (length rows)) rows) (listed (length rows) (row_bag rows filter))
   converted_alike [] None = tt
   converted_alike [] (Some ts) = tt
   converted_alike (r ∷ rs) None = (row_alike true (seen r), converted_alike rs None)
   converted_alike (r ∷ rs) (Some []) = (row_alike false (seen r), converted_alike rs (Some []))
   converted_alike (r ∷ rs) (Some (t ∷ ts)) = (row_alike (t.valid && t.figure) (seen r), converted_alike rs (Some ts))
 
-  converted_carries : (rows : List (Cell V)) (filter : Ticks) → Each CarriesEntry (cells (converted K rows filter)) (listed (length rows) (λ j. record { group = None; bag = row_bag rows filter j }))
+  converted_carries : (rows : List (Cell V)) (filter : Ticks) → AllZip CarriesEntry (cells (converted K rows filter)) (listed (length rows) (λ j. record { group = None; bag = row_bag rows filter j }))
   converted_carries rows filter =
       let entries = listed (length rows) (λ j. record { group = None; bag = row_bag rows filter j }) in
       let cs = row_credits K (passes filter (length rows)) rows in
       each_unmap (Carries K) (λ n. n.bag) (cells (converted K rows filter)) entries
-      (subst (Each (Carries K) (cells (converted K rows filter))) (sym (map_listed (λ (n : Entry V). n.bag) (length rows) (λ j. record { group = None; bag = row_bag rows filter j })))
+      (subst (AllZip (Carries K) (cells (converted K rows filter))) (sym (map_listed (λ (n : Entry V). n.bag) (length rows) (λ j. record { group = None; bag = row_bag rows filter j })))
       (state_carries (converts_masked K.switch) cs (listed (length rows) (row_bag rows filter)) (visible_converted K.switch refl cs) (converted_alike rows filter)))
 
   -- ── merged rows ──
-  carried_at : (rows : List (Cell S)) (entries : List (Entry V)) (n : ℕ) (d : Cell S) → Each CarriesEntry rows entries → n < length rows → Carries K (get_or rows n d) (get_or (bags_of entries) n [])
+  carried_at : (rows : List (Cell S)) (entries : List (Entry V)) (n : ℕ) (d : Cell S) → AllZip CarriesEntry rows entries → n < length rows → Carries K (get_or rows n d) (get_or (bags_of entries) n [])
   carried_at rows entries n d h l =
       subst (Carries K (get_or rows n d)) (sym (get_or-map (λ (x : Entry V). x.bag) entries n (record { group = None; bag = [] })))
       (each_at CarriesEntry rows entries n d (record { group = None; bag = [] }) l h)
@@ -191,8 +191,8 @@ module _ {V S O : Type 0} (K : Kind V S O) (L : Laws K) where
   row_carries (taker_refused r c) entries n d h l = carried_at (cells c) entries n d h.1 l
   row_carries no_such entries n d h l = absurd (omega arith)
 
-  sent_reads : (past : List (Outcome S O)) (b : Book V) → Each Told past b.entries → (sent : List (Sent S)) → AllByRecursion (Stands K past) sent
-      → Each Reads (sent_cells sent) (map (λ s. placed b s.from) sent)
+  sent_reads : (past : List (Outcome S O)) (b : Book V) → AllZip Told past b.entries → (sent : List (Sent S)) → AllByRecursion (Stands K past) sent
+      → AllZip Reads (sent_cells sent) (map (λ s. placed b s.from) sent)
   sent_reads past b h [] e = tt
   sent_reads past b h (s ∷ sent) e =
       let p = e.0.place in
@@ -200,7 +200,7 @@ module _ {V S O : Type 0} (K : Kind V S O) (L : Laws K) where
       (each_get_d Told past b.entries p.turn no_such [] (tt, tt) h) e.0.there in
       (subst (λ from. K.Alike (read K s.cell) (joined K (placed b from))) (sym e.0.said) (L.alike_trans _ _ _ e.0.as_written carried), sent_reads past b h sent e.1)
 
-  each_bags : (rows : List (Cell S)) (entries : List (Entry V)) → Each CarriesEntry rows entries → Each Reads rows (bags_of entries)
+  each_bags : (rows : List (Cell S)) (entries : List (Entry V)) → AllZip CarriesEntry rows entries → AllZip Reads rows (bags_of entries)
   each_bags [] [] e = tt
   each_bags [] (n ∷ ns) e = absurd e
   each_bags (r ∷ rs) [] e = absurd e
@@ -208,7 +208,7 @@ module _ {V S O : Type 0} (K : Kind V S O) (L : Laws K) where
 
   -- ── turns ──
   keeps_noted : (ts ts' : List (Means K)) (past : List (Outcome S O)) (o : Outcome S O) (b : Book V) (left : List (Account V)) (entries : List (Entry V))
-      → Inv ts past b → Each Fair ts' left → Told o entries → Inv ts' (past ++ o ∷ []) (noted b left entries)
+      → Inv ts past b → AllZip Fair ts' left → Told o entries → Inv ts' (past ++ o ∷ []) (noted b left entries)
   keeps_noted ts ts' past o b left entries i f t = record { fair = f; told = each_append Told past b.entries (o ∷ []) (entries ∷ []) i.told (t, tt) }
 
   no_account : Fair (fresh K (record { rows = 0; groups = 0; pairs = 0 })) (record { next = 0; groups = [] })
@@ -218,7 +218,7 @@ module _ {V S O : Type 0} (K : Kind V S O) (L : Laws K) where
     abbrev Kept : List (Outcome S O) → Book V → Turn V S → Step K l → Type 0
     Kept past b t s = Inv s.0 (past ++ s.1 ∷ []) (booked b t (verdict s.1))
 
-    fair_at : (ts : List (Means K)) (left : List (Account V)) (i : ℕ) → Each Fair ts left → Fair (at K l ts i) (account left i)
+    fair_at : (ts : List (Means K)) (left : List (Account V)) (i : ℕ) → AllZip Fair ts left → Fair (at K l ts i) (account left i)
     fair_at ts left i h = each_get_d Fair ts left i (nobody K l) (record { next = 0; groups = [] }) no_account h
 
     keeps_ruled : (r : Option Refusal) (ts : List (Means K)) (past : List (Outcome S O)) (b : Book V) (t : Turn V S) (s : Step K l) → Inv ts past b
@@ -243,7 +243,7 @@ module _ {V S O : Type 0} (K : Kind V S O) (L : Laws K) where
         let taker' = grown taker total (bags_at (bags_of given) gs) in
         let merging = set ts j after in
         let merging' = set b.accounts j taker' in
-        let read_as : Each Reads (cells c) (bags_of given) = each_bags (cells c) given carried in
+        let read_as : AllZip Reads (cells c) (bags_of given) = each_bags (cells c) given carried in
         let mid = each_set Fair ts b.accounts j after taker' (merge_fair (at K l ts j) taker (cells c) (bags_of given) gs total ok read_as (fair_at ts b.accounts j h.fair)) h.fair in
         keeps_noted ts (set merging i (removed K (at K l merging i) e)) past (wrote c) b (set merging' i (without (account merging' i) e)) given h
         (each_set Fair merging merging' i (removed K (at K l merging i) e) (without (account merging' i) e) (removed_fair (at K l merging i) (account merging' i) e (fair_at merging merging' i mid)) mid)

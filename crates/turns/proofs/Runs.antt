@@ -1,10 +1,10 @@
 -- The theorem over all turns together.
+use Rattle.std.specs.List.{AllZip}
 use Rattle.std.proofs.Common.{◌≡◌, ℕ, ◌<◌, List, [], ◌∷◌, ◌++◌, map, length, get_or, None, sym, refl, ap, ◌∙◌, subst, arith}
 use Rattle.std.proofs.lemmas.List.{append-nil, append_assoc}
 use Rattle.columnar.specs.Cells.{Cell, cells, over}
 use Rattle.groups.specs.Kind.{Kind, Laws, Commutes, joined}
 use Rattle.groups.specs.Tally.{Means, Limits, fresh}
-use Rattle.turns.specs.Lists.{Each}
 use Rattle.turns.specs.Turns.{Turn, Outcome, Layouts, step, outcomes, answers}
 use Rattle.turns.specs.Turns.Outcome.{done, showed, wrote, refused, taker_refused, no_such}
 use Rattle.turns.specs.Book.{Bag, Entry, Group, Book, verdict, booked, booked_all, new_book}
@@ -16,21 +16,21 @@ use Rattle.turns.proofs.Unseen.{outcomes_same}
 
 module _ {V S O : Type 0} (K : Kind V S O) (L : Laws K) where
   run_keeps : (l : Layouts S O) (turns : List (Turn V S)) (ts : List (Means K)) (past : List (Outcome S O)) (b : Book V) → Inv K L ts past b → HonestAfter K past turns (outcomes K l ts turns)
-      → Each (Told K L) (past ++ outcomes K l ts turns) (booked_all b turns (map verdict (outcomes K l ts turns))).entries
-  run_keeps l [] ts past b i h = subst (λ os. Each (Told K L) os b.entries) (sym (append-nil past)) i.told
+      → AllZip (Told K L) (past ++ outcomes K l ts turns) (booked_all b turns (map verdict (outcomes K l ts turns))).entries
+  run_keeps l [] ts past b i h = subst (λ os. AllZip (Told K L) os b.entries) (sym (append-nil past)) i.told
   run_keeps l (t ∷ turns) ts past b i h =
       let o = (step K l ts t).1 in
       let ts' = (step K l ts t).0 in
-      subst (λ os. Each (Told K L) os (booked_all (booked b t (verdict o)) turns (map verdict (outcomes K l ts' turns))).entries) (append_assoc past (o ∷ []) (outcomes K l ts' turns))
+      subst (λ os. AllZip (Told K L) os (booked_all (booked b t (verdict o)) turns (map verdict (outcomes K l ts' turns))).entries) (append_assoc past (o ∷ []) (outcomes K l ts' turns))
       (run_keeps l turns ts' (past ++ o ∷ []) (booked b t (verdict o)) (step_keeps K L l ts past b t i h.0) h.1)
 
   start : (ls : List Limits) → Inv K L (map (fresh K) ls) [] (new_book ls)
   start ls = record { fair = each_maps (Fair K L) (fresh K) (λ x. record { next = 0; groups = [] }) (λ x. record { alike = tt; visible = λ f. tt }) ls; told = tt }
 
   -- each turn tells its entries' bags in the order of crediting: no commuting is used
-  told : (l : Layouts S O) (ls : List Limits) (turns : List (Turn V S)) (os : List (Outcome S O)) → os ≡ answers K l ls turns → Honest K turns os → Each (Told K L) os (ledger ls turns os)
+  told : (l : Layouts S O) (ls : List Limits) (turns : List (Turn V S)) (os : List (Outcome S O)) → os ≡ answers K l ls turns → Honest K turns os → AllZip (Told K L) os (ledger ls turns os)
   told l ls turns os e =
-      subst (λ os. Honest K turns os → Each (Told K L) os (ledger ls turns os)) (sym e) (run_keeps l turns (map (fresh K) ls) [] (new_book ls) (start ls))
+      subst (λ os. Honest K turns os → AllZip (Told K L) os (ledger ls turns os)) (sym e) (run_keeps l turns (map (fresh K) ls) [] (new_book ls) (start ls))
 
   shown_at : (o : Outcome S O) (entries : List (Entry V)) (n : ℕ) (row : Cell O) (d : Entry V) → Told K L o entries → n < length (rows_shown o) → Shows K (get_or (rows_shown o) n row) (get_or entries n d).bag
   shown_at done entries n row d h l = absurd (omega arith)
@@ -40,7 +40,7 @@ module _ {V S O : Type 0} (K : Kind V S O) (L : Laws K) where
   shown_at (taker_refused r c) entries n row d h l = absurd (omega arith)
   shown_at no_such entries n row d h l = absurd (omega arith)
 
-  closed_shows : (ls : List Limits) (turns : List (Turn V S)) (os : List (Outcome S O)) → Each (Told K L) os (ledger ls turns os)
+  closed_shows : (ls : List Limits) (turns : List (Turn V S)) (os : List (Outcome S O)) → AllZip (Told K L) os (ledger ls turns os)
       → (g : Group) (row : Cell O) (bag : Bag V) → Closed ls turns os g row bag → Shows K row bag
   closed_shows ls turns os t g row bag c =
       let none : Entry V = record { group = None; bag = [] } in
@@ -58,7 +58,7 @@ module _ {V S O : Type 0} (K : Kind V S O) (L : Laws K) where
     showing (taker_refused r c) entries h = tt
     showing no_such entries h = tt
 
-    carrying : (rows : List (Cell S)) (entries : List (Entry V)) → Each (CarriesEntry K L) rows entries → Each (UpTo K Same (Carries K)) rows entries
+    carrying : (rows : List (Cell S)) (entries : List (Entry V)) → AllZip (CarriesEntry K L) rows entries → AllZip (UpTo K Same (Carries K)) rows entries
     carrying rows entries h = each_imp (CarriesEntry K L) (UpTo K Same (Carries K)) (λ row n q rows s. L.alike_trans _ _ _ q (respects n.bag rows s)) rows entries h
 
     writing : (o : Outcome S O) (entries : List (Entry V)) → Told K L o entries → Writing K (UpTo K Same (Carries K)) o entries

@@ -1,12 +1,13 @@
 -- What lies under nulls, in rows that are not let through and in null ticks reaches nothing.
 use Rattle.std.proofs.Common.{◌≡◌, ℕ, suc, ◌+◌, ◌-◌, Bool, true, false, cond, not, ◌&&◌, ◌||◌, eqb, ltb, List, [], ◌∷◌, map, length, set, is_some, Some, None, sum_by, sym, refl, ap, ◌∙◌, ap₂}
 use Rattle.std.proofs.lemmas.Bool.{true≢false, false≢true}
+use Rattle.std.specs.List.{AllZip, zip}
 use Rattle.columnar.specs.Cells.{Cell, Ticks, seen, passes, nulls}
 use Rattle.buffers.specs.Memory.{Room, short}
-use Rattle.groups.specs.Lists.{change, deal, zip, all_below, names_from}
+use Rattle.groups.specs.Lists.{change, deal, all_below, names_from}
 use Rattle.groups.specs.Kind.{Kind, read}
-use Rattle.groups.specs.Tally.{Means, refusal, convert_conditions, differs, turned, converts_masked, admitted, with_credits, opened, with_rows, row_credits, state_column}
-use Rattle.turns.specs.Lists.{Each, EachRow}
+use Rattle.groups.specs.Tally.{Means, none_hold, refusal, convert_conditions, differs, turned, converts_masked, admitted, with_credits, opened, with_rows, row_credits, state_column}
+use Rattle.turns.specs.Lists.{EachRow}
 use Rattle.turns.specs.Turns.{Turn, Sent, Layouts, Step, at, ruled, sent_cells, step, outcomes}
 use Rattle.turns.specs.Turns.Outcome.{done, wrote, no_such}
 use Rattle.turns.specs.Theorem.{Agree, TicksAgree, RowAgrees, BatchAgrees, SentAgrees, AlikeButHidden, same, updates, converts, merges}
@@ -90,7 +91,7 @@ module _ {V S O : Type 0} (K : Kind V S O) where
   same_plain (r ∷ rows) [] e = absurd e
   same_plain (r ∷ rows) (r' ∷ rows') e = same_more true true r r' _ _ rows rows' refl e.0.0 e.0.1 (same_plain rows rows' (rows_shift (RowAgrees None) 0 rows rows' e.1))
 
-  same_ticked : (rows rows' : List (Cell V)) (ts us : List (Cell Bool)) → Each Agree ts us → EachRow (RowAgrees (Some ts)) 0 rows rows'
+  same_ticked : (rows rows' : List (Cell V)) (ts us : List (Cell Bool)) → AllZip Agree ts us → EachRow (RowAgrees (Some ts)) 0 rows rows'
       → Same (passes (Some ts) (length rows)) rows (passes (Some us) (length rows')) rows'
   same_ticked [] [] ts us a e = same_none
   same_ticked [] (r ∷ rows) ts us a e = absurd e
@@ -111,20 +112,20 @@ module _ {V S O : Type 0} (K : Kind V S O) where
   same_batch rows rows' (Some ts) (Some us) e = same_ticked rows rows' ts us e.0 e.1
 
   -- ── merged rows ──
-  same_reads : (ss us : List (Sent S)) → Each SentAgrees ss us → map (λ s. read K s.cell) ss ≡ map (λ s. read K s.cell) us
+  same_reads : (ss us : List (Sent S)) → AllZip SentAgrees ss us → map (λ s. read K s.cell) ss ≡ map (λ s. read K s.cell) us
   same_reads [] [] e = refl
   same_reads [] (u ∷ us) e = absurd e
   same_reads (s ∷ ss) [] e = absurd e
   same_reads (s ∷ ss) (u ∷ us) e =
       ap₂ (λ c cs. c ∷ cs) (valid_same K.of_state K.empty s.cell.valid u.cell.valid s.cell.figure u.cell.figure e.0.1.0 e.0.1.1) (same_reads ss us e.1)
 
-  same_sent_nulls : (ss us : List (Sent S)) → Each SentAgrees ss us → nulls (sent_cells ss) ≡ nulls (sent_cells us)
+  same_sent_nulls : (ss us : List (Sent S)) → AllZip SentAgrees ss us → nulls (sent_cells ss) ≡ nulls (sent_cells us)
   same_sent_nulls [] [] e = refl
   same_sent_nulls [] (u ∷ us) e = absurd e
   same_sent_nulls (s ∷ ss) [] e = absurd e
   same_sent_nulls (s ∷ ss) (u ∷ us) e = nulls_same s.cell u.cell (sent_cells ss) (sent_cells us) e.0.1.0 (same_sent_nulls ss us e.1)
 
-  same_sent_length : (ss us : List (Sent S)) → Each SentAgrees ss us → length (sent_cells ss) ≡ length (sent_cells us)
+  same_sent_length : (ss us : List (Sent S)) → AllZip SentAgrees ss us → length (sent_cells ss) ≡ length (sent_cells us)
   same_sent_length [] [] e = refl
   same_sent_length [] (u ∷ us) e = absurd e
   same_sent_length (s ∷ ss) [] e = absurd e
@@ -137,7 +138,7 @@ module _ {V S O : Type 0} (K : Kind V S O) where
   deal_reads (g ∷ gs) [] cs = refl
   deal_reads (g ∷ gs) (s ∷ ss) cs = deal_reads gs ss (change (λ c. K.join c (read K s.cell)) g cs)
 
-  same_dealt : (gs : List ℕ) (ss us : List (Sent S)) (cs : List K.Credit) → Each SentAgrees ss us
+  same_dealt : (gs : List ℕ) (ss us : List (Sent S)) (cs : List K.Credit) → AllZip SentAgrees ss us
       → deal (λ c s. K.join c (read K s)) (zip gs (sent_cells ss)) cs ≡ deal (λ c s. K.join c (read K s)) (zip gs (sent_cells us)) cs
   same_dealt gs ss us cs e = deal_reads gs ss cs ∙ ap (λ l. deal K.join (zip gs l) cs) (same_reads ss us e) ∙ sym (deal_reads gs us cs)
 
@@ -149,7 +150,7 @@ module _ {V S O : Type 0} (K : Kind V S O) where
         let m = at K l ts i in
         ruled K l
         (refusal
-        (record {
+        (record none_hold {
           too_many_rows = ltb m.most_rows n;
           indices_differ = not (eqb n (length gs));
           filter_differs = differ;
@@ -158,8 +159,6 @@ module _ {V S O : Type 0} (K : Kind V S O) where
           index_above = not (all_below total gs);
           not_named = not (names_from (length m.credits) (total - length m.credits) gs);
           too_many_pairs = ltb m.most_pairs (sum_by K.pairs after);
-          too_many_groups = false;
-          buffer_short = false;
         }))
         ts (set ts i (with_credits K m after (turned K.switch m.marked batch)), done)
 
@@ -187,7 +186,7 @@ module _ {V S O : Type 0} (K : Kind V S O) where
         let b = same_sent_nulls ss us e in
         λ x. cond (all_below (length ts) (i ∷ [])) (batch_by ts i gs total (n x) (dealt x) false (ltb 0 (b x))) (ts, no_such)
 
-    pub outcomes_same : (turns turns' : List (Turn V S)) (ts : List (Means K)) → Each AlikeButHidden turns turns' → outcomes K l ts turns ≡ outcomes K l ts turns'
+    pub outcomes_same : (turns turns' : List (Turn V S)) (ts : List (Means K)) → AllZip AlikeButHidden turns turns' → outcomes K l ts turns ≡ outcomes K l ts turns'
     outcomes_same [] [] ts e = refl
     outcomes_same [] (u ∷ us) ts e = absurd e
     outcomes_same (t ∷ turns) [] ts e = absurd e

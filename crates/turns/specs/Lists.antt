@@ -1,16 +1,10 @@
 -- Words on lists, by places.
 --
---     Each R xs ys          the lists are as long as each other, and R holds of the elements at each place
---     EachRow R j xs ys     the same, where R also knows the place's number, counted from j
+--     EachRow R j xs ys     the lists are as long as each other, and R holds of the elements at each place and of its number,
+--                           counted from j
 --     listed n f            f 0, f 1 and so on up to f (n − 1)
 --     gathered n f          the lists f 0, f 1 and so on up to f (n − 1), end to end
 use Rattle.std.specs.Prelude.{ℕ, zero, suc, List, [], ◌∷◌, ◌++◌}
-
-abbrev pub Each : {A B : Type 0} → (A → B → Type 0) → List A → List B → Type 0
-Each R [] [] = Unit {0}
-Each R [] (y ∷ ys) = ⊥
-Each R (x ∷ xs) [] = ⊥
-Each R (x ∷ xs) (y ∷ ys) = R x y × Each R xs ys
 
 abbrev pub EachRow : {A B : Type 0} → (ℕ → A → B → Type 0) → ℕ → List A → List B → Type 0
 EachRow R j [] [] = Unit {0}

@@ -17,12 +17,12 @@
 --     RunsHold             it holds of the outcomes of all turns
 use Rattle.std.specs.Prelude.{◌≡◌, ℕ, ◌<◌, true, List, [], ◌∷◌, ◌++◌, map, length, get_or, Some, None, slice_index_or}
 use mathlib.Core.List.{Permᴰ}
-use Rattle.std.specs.List.{AllByRecursion}
+use Rattle.std.specs.List.{AllByRecursion, AllZip}
 use Rattle.columnar.specs.Cells.{Cell, Ticks, cells, over}
 use Rattle.buffers.specs.Memory.{Room}
 use Rattle.groups.specs.Kind.{Kind, read, joined}
 use Rattle.groups.specs.Tally.{Limits}
-use Rattle.turns.specs.Lists.{Each, EachRow}
+use Rattle.turns.specs.Lists.{EachRow}
 use Rattle.turns.specs.Turns.{Turn, Outcome, Place, Sent, Layouts, answers}
 use Rattle.turns.specs.Turns.Turn.{update, merge, convert, evaluate, state, peek, forget, hand_over}
 use Rattle.turns.specs.Turns.Outcome.{done, showed, wrote, refused, taker_refused, no_such}
@@ -57,7 +57,7 @@ abbrev pub TicksAgree : Ticks → Ticks → Type 0
 TicksAgree None None = Unit {0}
 TicksAgree None (Some us) = ⊥
 TicksAgree (Some ts) None = ⊥
-TicksAgree (Some ts) (Some us) = Each Agree ts us
+TicksAgree (Some ts) (Some us) = AllZip Agree ts us
 
 -- of a row that does not count only the validity
 abbrev pub RowAgrees : {V : Type 0} → Ticks → ℕ → Cell V → Cell V → Type 0
@@ -75,7 +75,7 @@ pub data AlikeButHidden {V S : Type 0} : Turn V S → Turn V S → Type 0 where
       → AlikeButHidden (update i rows filter groups total) (update i rows' filter' groups total)
   converts : (i : ℕ) (rows rows' : List (Cell V)) (filter filter' : Ticks) (room : Room) → BatchAgrees rows filter rows' filter'
       → AlikeButHidden (convert i rows filter room) (convert i rows' filter' room)
-  merges : (i : ℕ) (sent sent' : List (Sent S)) (groups : List ℕ) (total : ℕ) → Each SentAgrees sent sent'
+  merges : (i : ℕ) (sent sent' : List (Sent S)) (groups : List ℕ) (total : ℕ) → AllZip SentAgrees sent sent'
       → AlikeButHidden (merge i sent groups total) (merge i sent' groups total)
 
 -- ── the same rows ────────────────────────────────────────────────────────
@@ -137,7 +137,7 @@ module _ {V S O : Type 0} (K : Kind V S O) where
 
   abbrev pub Showing : (Cell O → Entry V → Type 0) → Outcome S O → List (Entry V) → Type 0
   Showing R done entries = Unit {0}
-  Showing R (showed c) entries = Each R (cells c) entries
+  Showing R (showed c) entries = AllZip R (cells c) entries
   Showing R (wrote c) entries = Unit {0}
   Showing R (refused r) entries = Unit {0}
   Showing R (taker_refused r c) entries = Unit {0}
@@ -146,9 +146,9 @@ module _ {V S O : Type 0} (K : Kind V S O) where
   abbrev pub Writing : (Cell S → Entry V → Type 0) → Outcome S O → List (Entry V) → Type 0
   Writing R done entries = Unit {0}
   Writing R (showed c) entries = Unit {0}
-  Writing R (wrote c) entries = Each R (cells c) entries
+  Writing R (wrote c) entries = AllZip R (cells c) entries
   Writing R (refused r) entries = Unit {0}
-  Writing R (taker_refused r c) entries = Each R (cells c) entries
+  Writing R (taker_refused r c) entries = AllZip R (cells c) entries
   Writing R no_such entries = Unit {0}
 
   -- ── the promise ──
@@ -156,14 +156,14 @@ module _ {V S O : Type 0} (K : Kind V S O) where
     -- the outcomes are those of the definitions
     pub answered : os ≡ answers K l ls turns
     -- each closed group shows the join of exactly the rows credited to it
-    pub shows : Honest turns os → Each (Showing (UpTo Same Shows)) os (ledger ls turns os)
+    pub shows : Honest turns os → AllZip (Showing (UpTo Same Shows)) os (ledger ls turns os)
     -- each state row written carries the join of exactly the rows credited to it
-    pub carries : Honest turns os → Each (Writing (UpTo Same Carries)) os (ledger ls turns os)
+    pub carries : Honest turns os → AllZip (Writing (UpTo Same Carries)) os (ledger ls turns os)
     -- two closed groups with the same rows credited show the same, in these turns or in any others of accumulators of the kind
     pub divides : Honest turns os → (l' : Layouts S O) (ls' : List Limits) (turns' : List (Turn V S)) → let os' = answers K l' ls' turns' in Honest turns' os'
         → (g g' : Group) (row row' : Cell O) (bag bag' : Bag V) → Closed ls turns os g row bag → Closed ls' turns' os' g' row' bag' → Same bag bag' → row ≡ row'
     -- turns that are alike in all but what is hidden have the same outcomes
-    pub hides : (turns' : List (Turn V S)) → Each AlikeButHidden turns turns' → answers K l ls turns' ≡ os
+    pub hides : (turns' : List (Turn V S)) → AllZip AlikeButHidden turns turns' → answers K l ls turns' ≡ os
 
   abbrev pub RunsHold : (Bag V → Bag V → Type 0) → Type 0
   RunsHold Same =

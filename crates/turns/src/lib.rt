@@ -7,15 +7,13 @@ use groups::groups_accumulator::{Commuting, GroupsAccumulator};
 
 /// In every run of accumulators of a kind, each closed group shows, and each state row carries, the join of exactly the
 /// rows credited to it, in the order of crediting.
-pub fn runs_hold<'a, T: GroupsAccumulator<'a>>() -> u8
+pub fn runs_hold<'a, T: GroupsAccumulator<'a>>()
     ensures { RunsHold T.GroupsAccumulator.kind InOrder }
-{
-    0
-}
+{}
 
 /// Where the kind commutes, the same of the rows taken in any order.
-pub fn runs_hold_in_any_order<'a, T: Commuting<'a>>(accumulator: &T) -> u8
+pub fn runs_hold_in_any_order<'a, T: Commuting<'a>>()
     ensures { RunsHold T.GroupsAccumulator.kind InAnyOrder }
 {
-    accumulator.commutes()
+    T::commutes()
 }

@@ -1,9 +1,10 @@
 use Rattle.std.proofs.Common.{◌≡◌, ℕ, ◌-◌, Bool, true, false, not, eqb, ltb, List, length, ℤ, sum_by, refl, ap}
+use Rattle.std.specs.Prelude.{zip}
 use Rattle.std.specs.Int.{int_wrap}
 use Rattle.columnar.specs.Cells.{Cell, Ticks}
 use Rattle.buffers.specs.Memory.{Room, values_layout, short}
-use Rattle.groups.specs.Lists.{zip, all_below, names_from}
-use Rattle.groups.specs.Tally.{Means, Conditions, refusal, convert_conditions, differs, merge_refusal, with_states, converted, convert_refusal}
+use Rattle.groups.specs.Lists.{all_below, names_from}
+use Rattle.groups.specs.Tally.{Means, Conditions, none_hold, refusal, convert_conditions, differs, merge_refusal, with_states, converted, convert_refusal}
 use Rattle.cases.specs.Words.{sums, is_number}
 use Rattle.cases.specs.Views.{ViewCases, BufferCases}
 use Rattle.cases.specs.Table.{ColumnCases, SumCases, RefusalCases, PeekCases, MergeCases, ConvertCases, DivisionCases, BooleanCases, ReadingCases}
@@ -12,17 +13,14 @@ use Rattle.cases.proofs.worked_cases.Goals as goal
 -- the conditions of a merge
 abbrev of_merge : Bool → Bool → Bool → Bool → Bool → Bool → Bool → Conditions
 of_merge rows indices below above index named pairs =
-    record {
+    record none_hold {
       too_many_rows = rows;
       indices_differ = indices;
-      filter_differs = false;
       total_below = below;
       total_above = above;
       index_above = index;
       not_named = named;
       too_many_pairs = pairs;
-      too_many_groups = false;
-      buffer_short = false;
     }
 
 without_filter : (rows indices below above index named pairs : Bool) → is_number 7 (refusal (of_merge rows indices below above index named pairs)) ≡ false

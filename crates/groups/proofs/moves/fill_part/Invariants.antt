@@ -1,6 +1,5 @@
-use Rattle.std.proofs.Common.{◌≡◌}
-use Rattle.groups.specs.Moves.{refilled}
+use Rattle.std.proofs.Common.{◌≡◌, ◌++◌, drop, replicate}
 use Rattle.groups.proofs.moves.fill_part.Given as goal
 
-abbrev pub invariant-loop-i : goal.invariant-loop-i
-invariant-loop-i g l = l.slots ≡ refilled l.initial.slots l.from l.i l.x
+abbrev pub invariant-loop-slot : goal.invariant-loop-slot
+invariant-loop-slot g l = l.slot-items ≡ replicate l.slot-index l.x ++ drop l.slot-index l.initial.slot-items
