@@ -2,7 +2,7 @@
 use Rattle.std.proofs.Common.{◌≡◌, ℕ, Bool, true, ◌||◌, List, [], pos, Some, sym, refl, ap, ◌∙◌, subst, arith}
 use mathlib.Core.Bool.{Bool-set}
 use Rattle.groups.specs.Kind.{Laws, Commutes, by_nulls, always_plain}
-use Rattle.keys.specs.Equivalence.{Equivalence}
+use Rattle.std.specs.Cmp.{IsEquivalence}
 use Rattle.distinct.specs.Members.{has, all_different}
 use Rattle.distinct.specs.Distinct.{Credit, distinct}
 use Rattle.distinct.proofs.Members.{or_comm, has_with_all, with_all_assoc, as_many}
@@ -19,7 +19,7 @@ same_credit {K} {same} a b p =
     (λ h. ap (λ (g : all_different same a.items ≡ true). record { items = a.items; apart = g }) (Bool-set (all_different same a.items) true a.apart h))
     b.apart
 
-module _ {K : Type 0} {same : K → K → Bool} (e : Equivalence same) where
+module _ {K : Type 0} {same : K → K → Bool} (e : IsEquivalence same) where
   pub distinct_laws : Laws (distinct same)
   distinct_laws =
       record {

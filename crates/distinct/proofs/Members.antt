@@ -2,7 +2,7 @@
 use Rattle.std.proofs.Common.{◌≡◌, ◌+◌, ◌≤◌, Bool, true, false, cond, not, ◌||◌, List, [], ◌∷◌, ◌++◌, length, sym, refl, ap, ◌∙◌, ⊎_elim, arith}
 use Rattle.std.proofs.lemmas.List.Sums.{fold_push}
 use Rattle.std.proofs.lemmas.Bool.{cases_Bool, cond-true, or_cases, or_parts, or_left, or_right, and_parts, not-true, both_ways, true≢false}
-use Rattle.keys.specs.Equivalence.{Equivalence}
+use Rattle.std.specs.Cmp.{IsEquivalence}
 use Rattle.distinct.specs.Members.{some, has, all_different, added, with_all, different}
 
 pub or_assoc : (a b c : Bool) → ((a || b) || c) ≡ (a || (b || c))
@@ -25,7 +25,7 @@ or_known true b h = refl
 or_known false true h = h refl
 or_known false false h = refl
 
-module _ {K : Type 0} {same : K → K → Bool} (e : Equivalence same) where
+module _ {K : Type 0} {same : K → K → Bool} (e : IsEquivalence same) where
   has_append : (xs ys : List K) (k : K) → has same (xs ++ ys) k ≡ (has same xs k || has same ys k)
   has_append [] ys k = refl
   has_append (x ∷ xs) ys k = ap (λ b. same x k || b) (has_append xs ys k) ∙ sym (or_assoc (same x k) (has same xs k) (has same ys k))
@@ -35,7 +35,7 @@ module _ {K : Type 0} {same : K → K → Bool} (e : Equivalence same) where
   has_like [] x k h l = absurd (true≢false (sym h))
   has_like (y ∷ ys) x k h l =
       ⊎_elim
-      (λ (here : same y x ≡ true). or_left (same y k) (has same ys k) (e.transitive y x k here l))
+      (λ (here : same y x ≡ true). or_left (same y k) (has same ys k) (e.congr y x k here ∙ l))
       (λ (there : has same ys x ≡ true). or_right (same y k) (has same ys k) (has_like ys x k there l))
       (or_cases (same y x) (has same ys x) h)
 
@@ -89,7 +89,7 @@ module _ {K : Type 0} {same : K → K → Bool} (e : Equivalence same) where
       (λ (here : same y x ≡ true).
       ap (λ b. has same (cond b ys (y ∷ without ys x)) k) here
       ∙ ⊎_elim
-      (λ (yk : same y k ≡ true). absurd (both_ways (same x k) n (e.transitive x y k (e.symmetric y x here) yk)))
+      (λ (yk : same y k ≡ true). absurd (both_ways (same x k) n (sym (e.congr y x k here) ∙ yk)))
       (λ (rest : has same ys k ≡ true). rest)
       (or_cases (same y k) (has same ys k) h))
       (λ (lacked : same y x ≡ false).
@@ -107,7 +107,7 @@ module _ {K : Type 0} {same : K → K → Bool} (e : Equivalence same) where
       ⊎_elim
       (λ (here : same y k ≡ true).
       ⊎_elim
-      (λ (xk : same x k ≡ true). absurd (both_ways (same x y) s.0 (e.transitive x k y xk (e.symmetric y k here))))
+      (λ (xk : same x k ≡ true). absurd (both_ways (same x y) s.0 (e.congr x k y xk ∙ e.symm k y ∙ here)))
       (λ lacked. lacked)
       (cases_Bool (same x k)))
       (λ (rest : has same ys k ≡ true). apart_from ys x k s.1 rest)
@@ -118,7 +118,7 @@ module _ {K : Type 0} {same : K → K → Bool} (e : Equivalence same) where
   fewer [] ys a h = omega arith
   fewer (x ∷ xs) ys a h =
       let s = and_parts (not (some (same x) xs)) (all_different same xs) a in
-      let there = h x (or_left (same x x) (has same xs x) (e.reflexive x)) in
+      let there = h x (or_left (same x x) (has same xs x) (e.refl x)) in
       let less = fewer xs (without ys x) s.1 (λ k m. has_without ys x k (h k (or_right (same x k) (has same xs k) m)) (apart_from xs x k (not-true (some (same x) xs) s.0) m)) in
       omega (arith, length_without ys x there)
 

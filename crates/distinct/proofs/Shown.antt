@@ -4,7 +4,7 @@ use Rattle.std.specs.List.{ContainsAt as Has}
 use Rattle.std.proofs.ByRecursion.{has_get_or, has_append_right}
 use Rattle.std.proofs.lemmas.Bool.{cases_Bool, or_cases, or_left, or_right, and_parts, and_from, not-true, not_from_false, both_ways, true≢false}
 use Rattle.groups.specs.Kind.{joined}
-use Rattle.keys.specs.Equivalence.{Equivalence}
+use Rattle.std.specs.Cmp.{IsEquivalence}
 use Rattle.distinct.specs.Members.{some, has, all_different}
 use Rattle.distinct.specs.Distinct.{distinct, ListsValues, CountsDifferentValues}
 use Rattle.distinct.proofs.Members.{or_false, has_with_all, as_many}
@@ -65,7 +65,7 @@ module _ {K : Type 0} (same : K → K → Bool) where
           absurd (both_ways (same x f.0) (ap (same x) (sym (f.1.2 f.0)) ∙ w zero (suc f.1.0) f.0 (omega arith) (omega (arith, f.1.1))) f.2)
 
 -- ── rows ─────────────────────────────────────────────────────────────────
-module _ {K : Type 0} {same : K → K → Bool} (e : Equivalence same) where
+module _ {K : Type 0} {same : K → K → Bool} (e : IsEquivalence same) where
   -- whether a row's value is the same as k
   abbrev tells : K → Option K → Bool
   tells k None = false
@@ -93,10 +93,10 @@ module _ {K : Type 0} {same : K → K → Bool} (e : Equivalence same) where
   items_list rows =
       record {
         once = once_from same (items rows) (joined (distinct same) rows).apart;
-        each = λ v h. find (λ x. same x v) (items rows) (items_have rows v ∙ found (tells v) rows (Some v) h (e.reflexive v));
+        each = λ v h. find (λ x. same x v) (items rows) (items_have rows v ∙ found (tells v) rows (Some v) h (e.refl v));
         only = λ k h.
-            let f = value_of rows k (sym (items_have rows k) ∙ found (λ x. same x k) (items rows) k h (e.reflexive k)) in
-            (f.0, f.1, e.symmetric f.0 k f.2);
+            let f = value_of rows k (sym (items_have rows k) ∙ found (λ x. same x k) (items rows) k h (e.refl k)) in
+            (f.0, f.1, e.symm k f.0 ∙ f.2);
       }
 
   listed_as_many : (rows : List (Option K)) (ks : List K) → ListsValues same rows ks → length (items rows) ≡ length ks
@@ -107,13 +107,13 @@ module _ {K : Type 0} {same : K → K → Bool} (e : Equivalence same) where
       to k t =
           let f = value_of rows k (sym (items_have rows k) ∙ t) in
           let g = l.each f.0 f.1 in
-          found (λ x. same x k) ks g.0 g.1 (e.transitive g.0 f.0 k g.2 f.2)
+          found (λ x. same x k) ks g.0 g.1 (e.congr g.0 f.0 k g.2 ∙ f.2)
 
       from : (k : K) → has same ks k ≡ true → has same (items rows) k ≡ true
       from k t =
           let f = find (λ x. same x k) ks t in
           let g = l.only f.0 f.1 in
-          items_have rows k ∙ found (tells k) rows (Some g.0) g.1 (e.transitive g.0 f.0 k (e.symmetric f.0 g.0 g.2) f.2)
+          items_have rows k ∙ found (tells k) rows (Some g.0) g.1 (sym (e.congr f.0 g.0 k g.2) ∙ f.2)
 
   pub counts_different_values : CountsDifferentValues same
   counts_different_values = record { kept = items_list; count = λ rows ks l. ap (λ n. Some (pos n)) (listed_as_many rows ks l) }

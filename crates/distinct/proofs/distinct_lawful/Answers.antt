@@ -3,5 +3,5 @@ use Rattle.distinct.proofs.distinct_lawful.Goals as goal
 
 pub returns : goal.returns
 returns g c =
-    let e = g.K.Key.equivalence in
+    let e = g.met.K.Eq.laws in
     record { laws = distinct_laws e; commutes = distinct_commutes e }
