@@ -1,9 +1,11 @@
--- Orders of values, and the lesser and the greater of two.
+-- Orders of values, and the lesser and the greater of two. The lemmas stand among the specifications since a type hands its
+-- own out with its order.
 --
---     Order UpTo cmp         the order is one that cmp ranks by, and two values that are up to each other are one
---     UpTo a b               of stamps: an earlier second, or the same second and a depot that is not higher
---     least, greatest        picking by an order combines
--- The lemmas stand among the specifications since a type hands its own out with its order.
+--     Order UpTo rank         rank compares two values by the order, and values that are up to each other are one
+--     UpTo a b                of stamps: an earlier second, or the same second and a depot that is not higher
+--     Picks UpTo rule         the rule's answer is one of its two values, and both are up to it
+--     least, greatest         the lesser and the greater by an order combine
+--     whole_numbers, stamps   the orders of signed numbers and of stamps
 use Rattle.std.specs.Prelude.{◌≡◌, ◌<◌, ◌≤◌, true, false, ◌⊎◌, ℤ, ◌≤ℤ◌}
 use Rattle.std.proofs.Common.{Ordering, Less, Equal, Greater, refl, ◌<ℤ◌, sym, inl, inr, subst, ⊎_elim, arith}
 use Rattle.std.specs.Ordering.{is_lt, ord_min, ord_max, on, then_cmp, ordering_then, nat_cmp, int_cmp, MatchOrdering}
@@ -13,9 +15,9 @@ use Rattle.std.proofs.lemmas.Bool.{true≢false, cases_Bool, cond-true, cond-fal
 use Rattle.operations.specs.declared.operation.Stamp.{Stamp}
 use Rattle.operations.specs.Primitive.{Combines}
 
-pub record Order {E : Type 0} (UpTo : E → E → Type 0) (cmp : E → E → Ordering) : Type 0 where
-  pub below : (a b : E) → is_lt (cmp a b) ≡ true → UpTo a b
-  pub not_below : (a b : E) → is_lt (cmp a b) ≡ false → UpTo b a
+pub record Order {E : Type 0} (UpTo : E → E → Type 0) (rank : E → E → Ordering) : Type 0 where
+  pub below : (a b : E) → is_lt (rank a b) ≡ true → UpTo a b
+  pub not_below : (a b : E) → is_lt (rank a b) ≡ false → UpTo b a
   pub onward : (a b c : E) → UpTo a b → UpTo b c → UpTo a c
   pub level : (a b : E) → UpTo a b → UpTo b a → a ≡ b
 
@@ -44,30 +46,30 @@ module _ {E : Type 0} {UpTo : E → E → Type 0} {rule : E → E → E} (onward
         comm = λ a b. level (rule a b) (rule b a) (within a b (rule b a) (p.right b a) (p.left b a)) (within b a (rule a b) (p.right a b) (p.left a b));
       }
 
-module _ {E : Type 0} {UpTo : E → E → Type 0} {cmp : E → E → Ordering} (o : Order UpTo cmp) where
+module _ {E : Type 0} {UpTo : E → E → Type 0} {rank : E → E → Ordering} (o : Order UpTo rank) where
   pub itself : (a : E) → UpTo a a
-  itself a = ⊎_elim (o.below a a) (o.not_below a a) (cases_Bool (is_lt (cmp a a)))
+  itself a = ⊎_elim (o.below a a) (o.not_below a a) (cases_Bool (is_lt (rank a a)))
 
-  pub lesser_picks : Picks (λ a b. UpTo b a) (ord_min cmp)
+  pub lesser_picks : Picks (λ a b. UpTo b a) (ord_min rank)
   lesser_picks =
       record {
-        either = λ a b. ⊎_elim (λ t. inr (cond-true (is_lt (cmp b a)) b a t)) (λ f. inl (cond-false (is_lt (cmp b a)) b a f)) (cases_Bool (is_lt (cmp b a)));
-        left = λ a b. cond_both (is_lt (cmp b a)) b a (λ m. UpTo m a) (o.below b a) (λ f. itself a);
-        right = λ a b. cond_both (is_lt (cmp b a)) b a (λ m. UpTo m b) (λ t. itself b) (o.not_below b a);
+        either = λ a b. ⊎_elim (λ t. inr (cond-true (is_lt (rank b a)) b a t)) (λ f. inl (cond-false (is_lt (rank b a)) b a f)) (cases_Bool (is_lt (rank b a)));
+        left = λ a b. cond_both (is_lt (rank b a)) b a (λ m. UpTo m a) (o.below b a) (λ f. itself a);
+        right = λ a b. cond_both (is_lt (rank b a)) b a (λ m. UpTo m b) (λ t. itself b) (o.not_below b a);
       }
 
-  pub greater_picks : Picks UpTo (ord_max cmp)
+  pub greater_picks : Picks UpTo (ord_max rank)
   greater_picks =
       record {
-        either = λ a b. ⊎_elim (λ t. inl (cond-true (is_lt (cmp b a)) a b t)) (λ f. inr (cond-false (is_lt (cmp b a)) a b f)) (cases_Bool (is_lt (cmp b a)));
-        left = λ a b. cond_both (is_lt (cmp b a)) a b (λ m. UpTo a m) (λ t. itself a) (o.not_below b a);
-        right = λ a b. cond_both (is_lt (cmp b a)) a b (λ m. UpTo b m) (o.below b a) (λ f. itself b);
+        either = λ a b. ⊎_elim (λ t. inl (cond-true (is_lt (rank b a)) a b t)) (λ f. inr (cond-false (is_lt (rank b a)) a b f)) (cases_Bool (is_lt (rank b a)));
+        left = λ a b. cond_both (is_lt (rank b a)) a b (λ m. UpTo a m) (λ t. itself a) (o.not_below b a);
+        right = λ a b. cond_both (is_lt (rank b a)) a b (λ m. UpTo b m) (o.below b a) (λ f. itself b);
       }
 
-  pub least : Combines (ord_min cmp)
+  pub least : Combines (ord_min rank)
   least = picks_combine (λ a b c p q. o.onward c b a q p) (λ a b p q. o.level a b q p) lesser_picks
 
-  pub greatest : Combines (ord_max cmp)
+  pub greatest : Combines (ord_max rank)
   greatest = picks_combine o.onward o.level greater_picks
 
 -- ── the orders ───────────────────────────────────────────────────────────

@@ -27,6 +27,7 @@ pub trait Operation<T> {
 }
 
 /// Adds up, wrapping at the type's ends.
+// One impl for each type: a trait of what wraps would have the members of `Operation` again, and an impl for each type too.
 #[derive(Clone, Copy)]
 pub struct Sum;
 
@@ -41,6 +42,7 @@ impl Operation<i64> for Sum {
         0
     }
 
+    #[tactic(auto, using(std::proofs::lemmas::Int::wraps))]
     fn combine(a: i64, b: i64) -> i64 {
         i64::wrapping_add(a, b)
     }
@@ -139,5 +141,5 @@ impl Bounded for Stamp {
     fn within(self) {}
 }
 
-/// The latest stamp is the greatest.
+/// The latest stamp is the greatest one.
 pub use Max as Latest;
