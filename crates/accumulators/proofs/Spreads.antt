@@ -7,7 +7,8 @@ use Rattle.std.proofs.ByRecursion.{All-weaker, has_append_right}
 use Rattle.std.proofs.lemmas.Int.{ints, clamps}
 use Rattle.std.proofs.lemmas.Bool.{cases_cond}
 use Rattle.groups.specs.Kind.{joined}
-use Rattle.accumulators.specs.Spans.{Ends, sorted, hulled, spread, recorded, join, span_kind}
+use Rattle.accumulators.specs.declared.span.SpanRecord.{SpanRecord}
+use Rattle.accumulators.specs.Spans.{Ends, sorted, ends_of, hulled, spread, recorded, join, span_kind, span_of, same_ends}
 use Rattle.accumulators.specs.Shown.{values, Shows, Farthest, Least, Greatest, ShowsSpan, WritesSpan}
 
 has_first : {E : Type 0} (x : E) (vs : List E) → Has (x ∷ vs) x
@@ -80,3 +81,13 @@ shows_span rs = made spread Farthest farthest (values rs) (joined span_kind rs) 
 
 pub writes_span : WritesSpan span_kind
 writes_span rs = made recorded (λ vs r. Least vs r.least × Greatest vs r.greatest) (λ vs e b. b) (values rs) (joined span_kind rs) (bounds rs)
+
+-- ── one more span ────────────────────────────────────────────────────────
+widened : (a b r : SpanRecord) → r.least ≡ int_min (ends_of a).least (ends_of b).least → r.greatest ≡ int_max (ends_of a).greatest (ends_of b).greatest → ends_of r ≡ hulled (ends_of a) (ends_of b)
+widened a b r p q = same_ends (ends_of r) (hulled (ends_of a) (ends_of b)) (omega (arith, ints, clamps, p, q)) (omega (arith, ints, clamps, p, q))
+
+pub covers_first : (o : Option SpanRecord) (b r : SpanRecord) → o ≡ None → r ≡ b → Some (ends_of r) ≡ join (span_of o) (Some (ends_of b))
+covers_first o b r n e = ap (λ q. Some (ends_of q)) e ∙ sym (ap (λ p. join (span_of p) (Some (ends_of b))) n)
+
+pub covers_more : (o : Option SpanRecord) (a b r : SpanRecord) → o ≡ Some a → r.least ≡ int_min (ends_of a).least (ends_of b).least → r.greatest ≡ int_max (ends_of a).greatest (ends_of b).greatest → Some (ends_of r) ≡ join (span_of o) (Some (ends_of b))
+covers_more o a b r s p q = ap Some (widened a b r p q) ∙ sym (ap (λ p. join (span_of p) (Some (ends_of b))) s)

@@ -66,6 +66,5 @@ pub trait Accumulator: Copy {
 
 /// An accumulator whose kind commutes: the join of two credits is alike in either order.
 pub trait CommutingAccumulator: Accumulator {
-    fn commutes(&self) -> u8
-        ensures { Commutes Self.Accumulator.kind };
+    ghost commutes: { Commutes Self.kind };
 }
