@@ -5,15 +5,13 @@
 --     Shows P vs c            nothing where there are no values, else a value that P says of them
 --     total_z vs              the plain sum
 use Rattle.std.specs.Prelude.{◌≡◌, ℕ, ◌%◌, ◌^◌, ◌<◌, Bool, true, List, [], ◌∷◌, ℤ, pos, ◌+ℤ◌, Some, None, Decides, sum, count_by, Option, FitsSigned}
-use Rattle.std.specs.List.{All, Contains}
+use Rattle.std.specs.List.{All, Contains, filter_map}
 use Rattle.std.specs.Int.{int_wrap, w64}
 use Rattle.groups.specs.Kind.{joined}
 use Rattle.operations.specs.Primitive.{primitive}
 
 abbrev pub values : {E : Type 0} → List (Option E) → List E
-values [] = []
-values (None ∷ rs) = values rs
-values (Some x ∷ rs) = x ∷ values rs
+values rs = filter_map (λ r. r) rs
 
 abbrev pub shown_of : {E : Type 0} → E → (E → E → E) → List (Option E) → Option E
 shown_of start rule rs = (primitive start rule).shown (joined (primitive start rule) rs)
