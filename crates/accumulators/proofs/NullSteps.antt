@@ -1,5 +1,6 @@
 -- What one more row makes of a count of nulls.
-use Rattle.std.proofs.Common.{◌≡◌, ℕ, ◌+◌, min, true, false, cond, not, List, [], ◌∷◌, ℤ, is_some, Some, None, Option, sym, refl, ap, ◌∙◌, arith}
+use Rattle.std.proofs.Common.{◌≡◌, ℕ, ◌+◌, min, true, false, cond, not, List, [], ◌∷◌, ℤ, is_some, Some, None, Option, unwrap_or, sym, refl, ap, arith}
+use Rattle.std.proofs.lemmas.Bool.{true≢false}
 use Rattle.std.proofs.lemmas.List.Sums.{sum_by-cons}
 use Rattle.columnar.specs.Cells.{over}
 use Rattle.groups.specs.Kind.{read, joined}
@@ -9,22 +10,17 @@ use Rattle.accumulators.specs.Shown.{null_rows, ShowsNulls}
 plus : (n m k : ℕ) → m ≡ min (n + k) most → capped m ≡ counted (capped n) (capped k)
 plus n m k e = same_count (capped m) (counted (capped n) (capped k)) (omega arith)
 
-plus_none : (n : ℕ) → capped n ≡ counted (capped n) (capped 0)
-plus_none n = same_count (capped n) (counted (capped n) (capped 0)) (omega arith)
-
 pub add_null : (n m : ℕ) (row : Option ℤ) → is_some row ≡ false → m ≡ min (n + 1) most → capped m ≡ counted (capped n) (of_row row)
 add_null n m None h e = plus n m 1 e
-add_null n m (Some v) h e = let z : ◌≡◌ {A = ℕ} 0 1 = cc in absurd (omega arith)
+add_null n m (Some v) h e = absurd (true≢false h)
 
 pub add_value : (n : ℕ) (row : Option ℤ) → is_some row ≡ true → capped n ≡ counted (capped n) (of_row row)
-add_value n None h = let z : ◌≡◌ {A = ℕ} 0 1 = cc in absurd (omega arith)
-add_value n (Some v) h = plus_none n
+add_value n None h = absurd (true≢false (sym h))
+add_value n (Some v) h = same_count (capped n) (counted (capped n) (capped 0)) (omega arith)
 
-pub state_count : (n m k : ℕ) (row : Option ℕ) → row ≡ Some k → m ≡ min (n + k) most → capped m ≡ counted (capped n) (read null_count_kind (over 0 row))
-state_count n m k row h e = plus n m k e ∙ sym (ap (λ r. counted (capped n) (read null_count_kind (over 0 r))) h)
-
-pub state_null : (n : ℕ) (row : Option ℕ) → row ≡ None → capped n ≡ counted (capped n) (read null_count_kind (over 0 row))
-state_null n row h = plus_none n ∙ sym (ap (λ r. counted (capped n) (read null_count_kind (over 0 r))) h)
+pub add_state : (n m k : ℕ) (row : Option ℕ) → k ≡ unwrap_or row 0 → m ≡ min (n + k) most → capped m ≡ counted (capped n) (read null_count_kind (over 0 row))
+add_state n m k None h e = plus n m 0 (omega (arith, h, e))
+add_state n m k (Some x) h e = plus n m x (omega (arith, h, e))
 
 -- ── many rows ────────────────────────────────────────────────────────────
 nulls_of : (rs : List (Option ℤ)) → (joined null_count_kind rs).count ≡ min (null_rows rs) most

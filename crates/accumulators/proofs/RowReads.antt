@@ -1,7 +1,8 @@
 -- What is read of a row is what the column has there, and one more listed row is joined after those before it.
-use Rattle.std.proofs.Common.{◌≡◌, ℕ, ◌+◌, ◌<◌, Bool, true, false, cond, List, [], ◌∷◌, map, length, get_or, take, Some, None, Option, unwrap_or, sym, refl, ap, ◌∙◌, arith}
+use Rattle.std.proofs.Common.{◌≡◌, ℕ, ◌+◌, ◌<◌, Bool, true, false, cond, List, [], ◌∷◌, map, length, get_or, take, is_some, Some, None, Option, unwrap_or, sym, refl, ap, ◌∙◌}
 use Rattle.std.specs.List.{slice_get}
 use Rattle.std.specs.Option.{option_map, option_flatten}
+use Rattle.std.proofs.lemmas.Bool.{true≢false}
 use Rattle.std.proofs.lemmas.List.Sums.{fold_more}
 use Rattle.columnar.specs.Cells.{Cell, seen, over}
 use Rattle.groups.specs.Kind.{Kind, Laws, read, joined}
@@ -14,7 +15,7 @@ module _ {V S O : Type 0} (K : Kind V S O) where
   by_valid false x = refl
 
   by_place : (o : Option (Cell S)) (r : Option S) → Some r ≡ option_map seen o → read K (over K.under r) ≡ unwrap_or (option_map (read K) o) K.empty
-  by_place None r e = let z : ◌≡◌ {A = ℕ} 0 1 = cc in absurd (omega arith)
+  by_place None r e = absurd (true≢false (ap is_some e))
   by_place (Some c) r e = ap (λ s. read K (over K.under s)) (ap option_flatten e) ∙ by_valid c.valid c.figure
 
   pub rows_more : (cells : List (Cell V)) (start before after : K.Credit) (js : List ℕ) (i : ℕ) (r : Option V) → i < length js → before ≡ after_rows K cells start (take i js) → Some r ≡ option_map seen (slice_get cells (get_or js i 0)) → after ≡ K.join before (K.of_row r) → after ≡ after_rows K cells start (take (i + 1) js)

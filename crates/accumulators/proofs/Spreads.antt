@@ -2,41 +2,39 @@
 use Rattle.std.proofs.Common.{◌≡◌, ◌⊎◌, List, [], ◌∷◌, ℤ, pos, ◌+ℤ◌, ◌-ℤ◌, nat_abs, ◌≤ℤ◌, Some, None, Option, sym, refl, ap, ◌∙◌, subst, inl, inr, ⊎_elim, arith}
 use Rattle.std.specs.Int.{int_min, int_max}
 use Rattle.std.specs.Option.{option_map}
-use Rattle.std.specs.List.{ContainsAt as Has, AllByRecursion}
-use Rattle.std.proofs.ByRecursion.{All-weaker, has_append_right}
+use Rattle.std.specs.List.{All, Contains}
+use Rattle.std.proofs.lemmas.List.Elements.{All-nil, All-cons, All-weaker, Contains-append_right}
 use Rattle.std.proofs.lemmas.Int.{ints, clamps}
 use Rattle.std.proofs.lemmas.Bool.{cases_cond}
 use Rattle.groups.specs.Kind.{joined}
-use Rattle.accumulators.specs.Spans.{Ends, sorted, hulled, spread, recorded, join, span_kind}
+use Rattle.accumulators.specs.declared.span.SpanRecord.{SpanRecord}
+use Rattle.accumulators.specs.Spans.{Ends, sorted, ends_of, hulled, spread, recorded, join, span_kind, span_of, same_ends}
 use Rattle.accumulators.specs.Shown.{values, Shows, Farthest, Least, Greatest, ShowsSpan, WritesSpan}
 
-has_first : {E : Type 0} (x : E) (vs : List E) → Has (x ∷ vs) x
-has_first x vs = (0, omega arith, λ d. refl)
-
-has_later : {E : Type 0} (x : E) (vs : List E) (v : E) → Has vs v → Has (x ∷ vs) v
-has_later x vs v h = has_append_right (x ∷ []) vs v h
+first_of : {E : Type 0} (x : E) (vs : List E) → Contains (x ∷ vs) x
+first_of x vs = (0, omega arith, refl)
 
 -- ── the least and the greatest of one value and others ───────────────────
 least_one : (x m : ℤ) → m ≡ x → Least (x ∷ []) m
-least_one x m e = (subst (Has (x ∷ [])) (sym e) (has_first x []), (omega (arith, ints, e), tt))
+least_one x m e = (subst (Contains (x ∷ [])) (sym e) (first_of x []), All-cons (λ v. m ≤ℤ v) x [] (omega (arith, ints, e)) (All-nil (λ v. m ≤ℤ v)))
 
 greatest_one : (x m : ℤ) → m ≡ x → Greatest (x ∷ []) m
-greatest_one x m e = (subst (Has (x ∷ [])) (sym e) (has_first x []), (omega (arith, ints, e), tt))
+greatest_one x m e = (subst (Contains (x ∷ [])) (sym e) (first_of x []), All-cons (λ v. v ≤ℤ m) x [] (omega (arith, ints, e)) (All-nil (λ v. v ≤ℤ m)))
 
-one_of : (x m n : ℤ) (vs : List ℤ) → (n ≡ x) ⊎ (n ≡ m) → Has vs m → Has (x ∷ vs) n
+one_of : (x m n : ℤ) (vs : List ℤ) → (n ≡ x) ⊎ (n ≡ m) → Contains vs m → Contains (x ∷ vs) n
 one_of x m n vs e h =
     ⊎_elim
-    (λ (first : n ≡ x). subst (Has (x ∷ vs)) (sym first) (has_first x vs))
-    (λ (later : n ≡ m). subst (Has (x ∷ vs)) (sym later) (has_later x vs m h))
+    (λ (first : n ≡ x). subst (Contains (x ∷ vs)) (sym first) (first_of x vs))
+    (λ (later : n ≡ m). subst (Contains (x ∷ vs)) (sym later) (Contains-append_right (x ∷ []) vs m h))
     e
 
 least_more : (x m n : ℤ) (vs : List ℤ) → n ≡ int_min x m → Least vs m → Least (x ∷ vs) n
 least_more x m n vs e p =
-    (one_of x m n vs (⊎_elim (λ y. inr (e ∙ y)) (λ y. inl (e ∙ y)) (cases_cond _ m x (int_min x m) refl)) p.0, (omega (arith, ints, clamps, e), All-weaker (λ v. m ≤ℤ v) (λ v. n ≤ℤ v) (λ v h. omega (arith, ints, clamps, e)) vs p.1))
+    (one_of x m n vs (⊎_elim (λ y. inr (e ∙ y)) (λ y. inl (e ∙ y)) (cases_cond _ m x (int_min x m) refl)) p.0, All-cons (λ v. n ≤ℤ v) x vs (omega (arith, ints, clamps, e)) (All-weaker (λ v. m ≤ℤ v) (λ v. n ≤ℤ v) (λ v h. omega (arith, ints, clamps, e)) vs p.1))
 
 greatest_more : (x m n : ℤ) (vs : List ℤ) → n ≡ int_max x m → Greatest vs m → Greatest (x ∷ vs) n
 greatest_more x m n vs e p =
-    (one_of x m n vs (⊎_elim (λ y. inl (e ∙ y)) (λ y. inr (e ∙ y)) (cases_cond _ x m (int_max x m) refl)) p.0, (omega (arith, ints, clamps, e), All-weaker (λ v. v ≤ℤ m) (λ v. v ≤ℤ n) (λ v h. omega (arith, ints, clamps, e)) vs p.1))
+    (one_of x m n vs (⊎_elim (λ y. inl (e ∙ y)) (λ y. inr (e ∙ y)) (cases_cond _ x m (int_max x m) refl)) p.0, All-cons (λ v. v ≤ℤ n) x vs (omega (arith, ints, clamps, e)) (All-weaker (λ v. v ≤ℤ m) (λ v. v ≤ℤ n) (λ v h. omega (arith, ints, clamps, e)) vs p.1))
 
 -- ── the ends of rows ─────────────────────────────────────────────────────
 abbrev Bounds : List ℤ → Ends → Type 0
@@ -70,7 +68,7 @@ farthest vs e b =
     let d = spread e in
     let reach = apart e.least e.greatest e.ordered in (
       (e.least, e.greatest, b.0.0, b.1.0, reach),
-      All-weaker (λ v. e.least ≤ℤ v) (λ v. AllByRecursion (λ w. w ≤ℤ (v +ℤ pos d)) vs)
+      All-weaker (λ v. e.least ≤ℤ v) (λ v. All (λ w. w ≤ℤ (v +ℤ pos d)) vs)
           (λ v low. All-weaker (λ w. w ≤ℤ e.greatest) (λ w. w ≤ℤ (v +ℤ pos d)) (λ w high. omega (arith, ints, reach)) vs b.1.1)
           vs b.0.1,
     )
@@ -80,3 +78,13 @@ shows_span rs = made spread Farthest farthest (values rs) (joined span_kind rs) 
 
 pub writes_span : WritesSpan span_kind
 writes_span rs = made recorded (λ vs r. Least vs r.least × Greatest vs r.greatest) (λ vs e b. b) (values rs) (joined span_kind rs) (bounds rs)
+
+-- ── one more span ────────────────────────────────────────────────────────
+widened : (a b r : SpanRecord) → r.least ≡ int_min (ends_of a).least (ends_of b).least → r.greatest ≡ int_max (ends_of a).greatest (ends_of b).greatest → ends_of r ≡ hulled (ends_of a) (ends_of b)
+widened a b r p q = same_ends (ends_of r) (hulled (ends_of a) (ends_of b)) (omega (arith, ints, clamps, p, q)) (omega (arith, ints, clamps, p, q))
+
+pub covers_first : (o : Option SpanRecord) (b r : SpanRecord) → o ≡ None → r ≡ b → Some (ends_of r) ≡ join (span_of o) (Some (ends_of b))
+covers_first o b r n e = ap (λ q. Some (ends_of q)) e ∙ sym (ap (λ p. join (span_of p) (Some (ends_of b))) n)
+
+pub covers_more : (o : Option SpanRecord) (a b r : SpanRecord) → o ≡ Some a → r.least ≡ int_min (ends_of a).least (ends_of b).least → r.greatest ≡ int_max (ends_of a).greatest (ends_of b).greatest → Some (ends_of r) ≡ join (span_of o) (Some (ends_of b))
+covers_more o a b r s p q = ap Some (widened a b r p q) ∙ sym (ap (λ p. join (span_of p) (Some (ends_of b))) s)

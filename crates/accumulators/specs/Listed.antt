@@ -6,7 +6,7 @@
 --     after_states K cells c js  the same with state rows
 --     Within cells js            every listed row is within the column
 use Rattle.std.specs.Prelude.{ℕ, ◌<◌, List, length, fold, Option}
-use Rattle.std.specs.List.{slice_get, AllByRecursion}
+use Rattle.std.specs.List.{slice_get, All}
 use Rattle.std.specs.Option.{option_map, unwrap_or, option_flatten}
 use Rattle.columnar.specs.Cells.{Cell, seen}
 use Rattle.groups.specs.Kind.{Kind, read}
@@ -15,7 +15,7 @@ abbrev pub seen_at : {X : Type 0} → List (Cell X) → ℕ → Option X
 seen_at cells j = option_flatten (option_map seen (slice_get cells j))
 
 abbrev pub Within : {X : Type 0} → List (Cell X) → List ℕ → Type 0
-Within cells js = AllByRecursion (λ j. j < length cells) js
+Within cells js = All (λ j. j < length cells) js
 
 module _ {V S O : Type 0} (K : Kind V S O) where
   abbrev pub read_at : List (Cell S) → ℕ → K.Credit

@@ -9,16 +9,14 @@
 --     ShowsNulls             what a count of nulls shows, which is its state row too
 --     ListedRows             whatever the kind, listed rows joined one after another are alike the rows' join
 use Rattle.std.specs.Prelude.{◌≡◌, ℕ, ◌-◌, ◌^◌, min, not, List, [], ◌∷◌, map, ℤ, pos, ◌+ℤ◌, ◌≤ℤ◌, is_some, Some, None, count_by, Option}
-use Rattle.std.specs.List.{ContainsAt as Has, AllByRecursion}
+use Rattle.std.specs.List.{All, Contains, filter_map}
 use Rattle.columnar.specs.Cells.{Cell}
 use Rattle.groups.specs.Kind.{Kind, joined}
 use Rattle.accumulators.specs.declared.span.SpanRecord.{SpanRecord}
 use Rattle.accumulators.specs.Listed.{seen_at, after_rows}
 
 abbrev pub values : {E : Type 0} → List (Option E) → List E
-values [] = []
-values (None ∷ rs) = values rs
-values (Some x ∷ rs) = x ∷ values rs
+values rs = filter_map (λ r. r) rs
 
 abbrev pub Shows : {E F : Type 0} → (List E → F → Type 0) → List E → Option F → Type 0
 Shows P [] o = o ≡ None
@@ -26,13 +24,13 @@ Shows {E} {F} P (v ∷ vs) o = (m : F) × (o ≡ Some m) × P (v ∷ vs) m
 
 -- ── the span ─────────────────────────────────────────────────────────────
 abbrev pub Farthest : List ℤ → ℕ → Type 0
-Farthest vs d = ((a : ℤ) × (b : ℤ) × Has vs a × Has vs b × (b ≡ (a +ℤ pos d))) × AllByRecursion (λ v. AllByRecursion (λ w. w ≤ℤ (v +ℤ pos d)) vs) vs
+Farthest vs d = ((a : ℤ) × (b : ℤ) × Contains vs a × Contains vs b × (b ≡ (a +ℤ pos d))) × All (λ v. All (λ w. w ≤ℤ (v +ℤ pos d)) vs) vs
 
 abbrev pub Least : List ℤ → ℤ → Type 0
-Least vs m = Has vs m × AllByRecursion (λ v. m ≤ℤ v) vs
+Least vs m = Contains vs m × All (λ v. m ≤ℤ v) vs
 
 abbrev pub Greatest : List ℤ → ℤ → Type 0
-Greatest vs m = Has vs m × AllByRecursion (λ v. v ≤ℤ m) vs
+Greatest vs m = Contains vs m × All (λ v. v ≤ℤ m) vs
 
 abbrev pub ShowsSpan : {S : Type 0} → Kind ℤ S ℕ → Type 0
 ShowsSpan K = (rs : List (Option ℤ)) → Shows Farthest (values rs) (K.shown (joined K rs))

@@ -44,6 +44,7 @@ pub trait Accumulator: Copy {
         ensures { result ≡ kind.written (credit self.now) };
 
     /// Joins the credits of the listed rows, in the order of the list.
+    #[tactic(auto, using(crate::proofs::RowReads::rows_more))]
     fn update<C: FlatRows<Self::Value>>(&mut self, values: &C, rows: &[usize])
         requires { Within (C.Rows.cells values.now) rows.now }
         ensures { credit self.new ≡ after_rows kind (C.Rows.cells values.now) (credit self.old) rows.now }
@@ -54,6 +55,7 @@ pub trait Accumulator: Copy {
     }
 
     /// Joins the credits of the listed state rows, in the order of the list.
+    #[tactic(auto, using(crate::proofs::RowReads::states_more))]
     fn merge<C: FlatRows<Self::State>>(&mut self, states: &C, rows: &[usize])
         requires { Within (C.Rows.cells states.now) rows.now }
         ensures { credit self.new ≡ after_states kind (C.Rows.cells states.now) (credit self.old) rows.now }
@@ -66,6 +68,5 @@ pub trait Accumulator: Copy {
 
 /// An accumulator whose kind commutes: the join of two credits is alike in either order.
 pub trait CommutingAccumulator: Accumulator {
-    fn commutes(&self) -> u8
-        ensures { Commutes Self.Accumulator.kind };
+    ghost commutes: { Commutes Self.kind };
 }

@@ -1,7 +1,7 @@
 ghost use Rattle.std.specs.Prelude.{◌≡◌, Some};
 ghost use Rattle.columnar.specs.Cells.{over};
 ghost use Rattle.groups.specs.Kind.{read};
-ghost use Rattle.accumulators.specs.NullCounts.{capped, counted, null_count_kind, null_count_laws};
+ghost use Rattle.accumulators.specs.NullCounts.{capped, counted, null_count_kind, null_count_laws, null_counts_commute};
 
 use crate::accumulator::{Accumulator, CommutingAccumulator};
 
@@ -46,12 +46,11 @@ impl Accumulator for Blanks {
         }
     }
 
+    #[tactic(auto, using(crate::proofs::NullSteps::add_state))]
     fn join_state(&mut self, row: Option<u64>)
         ensures { capped self.new.nulls ≡ counted (capped self.old.nulls) (read null_count_kind (over null_count_kind.under row)) }
     {
-        if let Some(nulls) = row {
-            self.nulls = self.nulls.saturating_add(nulls);
-        }
+        self.nulls = self.nulls.saturating_add(row.unwrap_or(0));
     }
 
     fn evaluate(&self) -> Option<u64> {
@@ -64,7 +63,5 @@ impl Accumulator for Blanks {
 }
 
 impl CommutingAccumulator for Blanks {
-    fn commutes(&self) -> u8 {
-        0
-    }
+    ghost commutes = { null_counts_commute };
 }

@@ -1,9 +1,10 @@
 ghost use Rattle.std.specs.Prelude.{◌≡◌, if◌then◌else◌, Some, None};
+ghost use Rattle.std.specs.Int.{int_min, int_max};
 ghost use Rattle.std.specs.Int.Signed.{lt_z};
 ghost use Rattle.std.specs.Result.{result_ok, result_err};
 ghost use Rattle.columnar.specs.Cells.{over};
 ghost use Rattle.groups.specs.Kind.{read};
-ghost use Rattle.accumulators.specs.Spans.{ends_of, hulled, spread, recorded, join, span_of, span_kind, span_laws, order_refusal};
+ghost use Rattle.accumulators.specs.Spans.{ends_of, hulled, spread, recorded, join, span_of, span_kind, span_laws, span_commutes, order_refusal};
 
 use crate::accumulator::{Accumulator, CommutingAccumulator};
 use columnar::refusal::Refusal;
@@ -27,13 +28,27 @@ impl SpanRecord {
         Ok(SpanRecord { least, greatest })
     }
 
+    /// The lesser of the two numbers.
+    fn low(self) -> i64
+        ensures { result ≡ (ends_of self).least }
+    {
+        self.least.min(self.greatest)
+    }
+
+    /// The greater of the two numbers.
+    fn high(self) -> i64
+        ensures { result ≡ (ends_of self).greatest }
+    {
+        self.least.max(self.greatest)
+    }
+
     /// The same span, with its numbers in order.
     fn sorted(self) -> SpanRecord
         ensures { result ≡ recorded (ends_of self) }
     {
         SpanRecord {
-            least: self.least.min(self.greatest),
-            greatest: self.least.max(self.greatest),
+            least: self.low(),
+            greatest: self.high(),
         }
     }
 
@@ -46,13 +61,12 @@ impl SpanRecord {
 
     /// The least span that covers both.
     fn hull(self, other: SpanRecord) -> SpanRecord
-        ensures { result ≡ recorded (hulled (ends_of self) (ends_of other)) }
+        ensures least { result.least ≡ int_min (ends_of self).least (ends_of other).least }
+        ensures greatest { result.greatest ≡ int_max (ends_of self).greatest (ends_of other).greatest }
     {
-        let a = self.sorted();
-        let b = other.sorted();
         SpanRecord {
-            least: a.least.min(b.least),
-            greatest: a.greatest.max(b.greatest),
+            least: self.low().min(other.low()),
+            greatest: self.high().max(other.high()),
         }
     }
 }
@@ -64,14 +78,12 @@ pub struct Span {
 }
 
 impl Span {
-    /// Widens the span so that it covers a record.
-    fn cover(&mut self, record: SpanRecord)
-        ensures { span_of self.new.ends ≡ join (span_of self.old.ends) (Some (ends_of «record»)) }
+    /// Widens the span so that it covers another one.
+    #[tactic(auto, using(crate::proofs::Spreads::covers_first, crate::proofs::Spreads::covers_more))]
+    fn cover(&mut self, other: SpanRecord)
+        ensures { span_of self.new.ends ≡ join (span_of self.old.ends) (Some (ends_of other)) }
     {
-        self.ends = match self.ends {
-            None => Some(record),
-            Some(ends) => Some(ends.hull(record)),
-        };
+        self.ends = Some(self.ends.map_or(other, |ends| ends.hull(other)));
     }
 }
 
@@ -106,28 +118,20 @@ impl Accumulator for Span {
     fn join_state(&mut self, row: Option<SpanRecord>)
         ensures { span_of self.new.ends ≡ join (span_of self.old.ends) (read span_kind (over span_kind.under row)) }
     {
-        if let Some(record) = row {
-            self.cover(record);
+        if let Some(other) = row {
+            self.cover(other);
         }
     }
 
     fn evaluate(&self) -> Option<u64> {
-        match self.ends {
-            None => None,
-            Some(ends) => Some(ends.width()),
-        }
+        self.ends.map(SpanRecord::width)
     }
 
     fn state(&self) -> Option<SpanRecord> {
-        match self.ends {
-            None => None,
-            Some(ends) => Some(ends.sorted()),
-        }
+        self.ends.map(SpanRecord::sorted)
     }
 }
 
 impl CommutingAccumulator for Span {
-    fn commutes(&self) -> u8 {
-        0
-    }
+    ghost commutes = { span_commutes };
 }

@@ -1,25 +1,21 @@
 -- The laws of distinct counts.
-use Rattle.std.proofs.Common.{◌≡◌, ℕ, Bool, true, ◌||◌, List, [], pos, Some, sym, refl, ap, ◌∙◌, subst, arith}
-use mathlib.Core.Bool.{Bool-set}
+use Rattle.std.proofs.Common.{◌≡◌, ℕ, Bool, ◌||◌, [], get_or, pos, Some, false, sym, refl, ap, ◌∙◌, arith}
+use mathlib.Core.HLevel.{is_prop→PathP}
+use Rattle.std.proofs.Math.Bool.{Bool-set, or_comm}
 use Rattle.groups.specs.Kind.{Laws, Commutes, by_nulls, always_plain}
-use Rattle.keys.specs.Equivalence.{Equivalence}
-use Rattle.distinct.specs.Members.{has, all_different}
+use Rattle.std.specs.Cmp.{IsEquivalence}
+use Rattle.distinct.specs.Members.{has, Different}
 use Rattle.distinct.specs.Distinct.{Credit, distinct}
-use Rattle.distinct.proofs.Members.{or_comm, has_with_all, with_all_assoc, as_many}
+use Rattle.distinct.proofs.Members.{has_with_all, with_all_assoc, as_many}
 
 clash : {A : Type 0} → always_plain ≡ by_nulls → A
 clash e = let z : ◌≡◌ {A = ℕ} 0 1 = cc in absurd (omega arith)
 
 -- a credit is its keys
 pub same_credit : {K : Type 0} {same : K → K → Bool} (a b : Credit same) → a.items ≡ b.items → a ≡ b
-same_credit {K} {same} a b p =
-    subst
-    (λ (xs : List K). (h : all_different same xs ≡ true) → a ≡ record { items = xs; apart = h })
-    p
-    (λ h. ap (λ (g : all_different same a.items ≡ true). record { items = a.items; apart = g }) (Bool-set (all_different same a.items) true a.apart h))
-    b.apart
+same_credit {K} {same} a b p = λ i. record { items = p i; apart = is_prop→PathP (λ j. Different same (p j)) (λ j f g h x y d l m. Bool-set (same (get_or (p j) x d) (get_or (p j) y d)) false (f x y d l m) (g x y d l m) h) a.apart b.apart i }
 
-module _ {K : Type 0} {same : K → K → Bool} (e : Equivalence same) where
+module _ {K : Type 0} {same : K → K → Bool} (e : IsEquivalence same) where
   pub distinct_laws : Laws (distinct same)
   distinct_laws =
       record {

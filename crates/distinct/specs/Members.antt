@@ -1,24 +1,19 @@
 -- Lists of keys, told apart by a test of being the same.
 --
---     some p xs              whether one of them passes a test
 --     has xs k               whether one of them is the same as k
---     all_different xs       whether none is the same as a later one
+--     Different xs           none is the same as a later one
 --     added xs x             x appended, unless it is there already
 --     with_all xs ys         a list followed by what it lacks of another, by first arrival
 --     different xs           the different ones of a list, by first arrival
-use Rattle.std.specs.Prelude.{Bool, true, false, cond, not, ◌&&◌, ◌||◌, List, [], ◌∷◌, ◌++◌, fold}
-
-abbrev pub some : {K : Type 0} → (K → Bool) → List K → Bool
-some p [] = false
-some p (x ∷ xs) = p x || some p xs
+use Rattle.std.specs.Prelude.{◌≡◌, Bool, false, cond, List, [], ◌∷◌, ◌++◌, fold}
+use Rattle.std.specs.List.{list_any, AllPairs}
 
 module _ {K : Type 0} (same : K → K → Bool) where
   abbrev pub has : List K → K → Bool
-  has xs k = some (λ x. same x k) xs
+  has xs k = list_any (λ x. same x k) xs
 
-  abbrev pub all_different : List K → Bool
-  all_different [] = true
-  all_different (x ∷ xs) = not (some (same x) xs) && all_different xs
+  abbrev pub Different : List K → Type 0
+  Different xs = AllPairs (λ x y. same x y ≡ false) xs
 
   abbrev pub added : List K → K → List K
   added xs x = cond (has xs x) xs (xs ++ x ∷ [])

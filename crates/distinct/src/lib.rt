@@ -6,16 +6,14 @@ ghost use Rattle.distinct.specs.Distinct.{distinct, CountsDifferentValues};
 use keys::key::Key;
 
 /// The laws of distinct counts hold at every key.
-pub fn distinct_lawful<K: Key>() -> u8
-    ensures laws { Laws (distinct K.Key.same) }
-    ensures commutes { Commutes (distinct K.Key.same) }
-{
-    0
-}
+#[tactic(auto, using(crate::proofs::Laws::distinct_laws, crate::proofs::Laws::distinct_commutes))]
+pub fn distinct_lawful<K: Key>()
+    ensures laws { Laws (distinct K.eq) }
+    ensures commutes { Commutes (distinct K.eq) }
+{}
 
 /// Rows are shown as how many different values are among them.
-pub fn distinct_shows<K: Key>() -> u8
-    ensures { CountsDifferentValues K.Key.same }
-{
-    0
-}
+#[tactic(auto, using(crate::proofs::Shown::counts_different_values))]
+pub fn distinct_shows<K: Key>()
+    ensures { CountsDifferentValues K.eq }
+{}

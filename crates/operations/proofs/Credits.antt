@@ -1,14 +1,12 @@
 -- The laws of the primitive kind, for every rule that combines.
 use Rattle.std.proofs.Common.{◌≡◌, ℕ, true, false, ◌||◌, is_some, Some, None, Option, sym, refl, ap, ◌∙◌, ap₂, arith}
+use Rattle.std.proofs.lemmas.Bool.{true≢false}
 use Rattle.columnar.specs.Cells.{over}
 use Rattle.groups.specs.Kind.{Laws, Commutes, read, by_nulls, always_plain}
 use Rattle.operations.specs.Primitive.{Combines, join_by, primitive, marked, value, MarkAndValue}
 
 clash : {A : Type 0} → by_nulls ≡ always_plain → A
 clash e = let z : ◌≡◌ {A = ℕ} 0 1 = cc in absurd (omega arith)
-
-no_mark : {A : Type 0} → true ≡ false → A
-no_mark e = let z : ◌≡◌ {A = ℕ} 0 1 = cc in absurd (omega arith)
 
 module _ {E : Type 0} (rule : E → E → E) where
   join_right : (a : Option E) → join_by rule a None ≡ a
@@ -30,8 +28,8 @@ module _ {E : Type 0} (start : E) (rule : E → E → E) where
   reads_back (Some x) = refl
 
   value_of_marked : (a b : Option E) → marked a ≡ true → marked b ≡ true → value start (join_by rule a b) ≡ rule (value start a) (value start b)
-  value_of_marked None b p q = no_mark (sym p)
-  value_of_marked (Some x) None p q = no_mark (sym q)
+  value_of_marked None b p q = absurd (true≢false (sym p))
+  value_of_marked (Some x) None p q = absurd (true≢false (sym q))
   value_of_marked (Some x) (Some y) p q = refl
 
   value_of_join : (a b : Option E) → rule start (value start b) ≡ value start b → rule (value start a) start ≡ value start a → value start (join_by rule a b) ≡ rule (value start a) (value start b)
@@ -42,12 +40,12 @@ module _ {E : Type 0} (start : E) (rule : E → E → E) where
 module _ {E : Type 0} (start : E) where
   unmarked_start : (a : Option E) → marked a ≡ false → value start a ≡ start
   unmarked_start None e = refl
-  unmarked_start (Some x) e = no_mark e
+  unmarked_start (Some x) e = absurd (true≢false e)
 
   same_credit : (a b : Option E) → marked a ≡ marked b → value start a ≡ value start b → a ≡ b
   same_credit None None m v = refl
-  same_credit None (Some y) m v = no_mark (sym m)
-  same_credit (Some x) None m v = no_mark m
+  same_credit None (Some y) m v = absurd (true≢false (sym m))
+  same_credit (Some x) None m v = absurd (true≢false m)
   same_credit (Some x) (Some y) m v = ap Some v
 
 module _ {E : Type 0} {rule : E → E → E} (c : Combines rule) where

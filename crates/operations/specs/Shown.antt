@@ -4,18 +4,14 @@
 --     shown_of start rule rs  what is shown of the join of the rows
 --     Shows P vs c            nothing where there are no values, else a value that P says of them
 --     total_z vs              the plain sum
---     UpTo a b                an earlier second, or the same second and a depot that is not higher
-use Rattle.std.specs.Prelude.{◌≡◌, ℕ, ◌%◌, ◌^◌, ◌<◌, ◌≤◌, Bool, true, ◌⊎◌, List, [], ◌∷◌, ℤ, pos, ◌+ℤ◌, ◌≤ℤ◌, Some, None, Decides, sum, count_by, Option, FitsSigned}
-use Rattle.std.specs.List.{ContainsAt as Has, AllByRecursion}
+use Rattle.std.specs.Prelude.{◌≡◌, ℕ, ◌%◌, ◌^◌, ◌<◌, Bool, true, List, [], ◌∷◌, ℤ, pos, ◌+ℤ◌, Some, None, Decides, sum, count_by, Option, FitsSigned}
+use Rattle.std.specs.List.{All, Contains, filter_map}
 use Rattle.std.specs.Int.{int_wrap, w64}
 use Rattle.groups.specs.Kind.{joined}
-use Rattle.operations.specs.declared.operation.Stamp.{Stamp}
 use Rattle.operations.specs.Primitive.{primitive}
 
 abbrev pub values : {E : Type 0} → List (Option E) → List E
-values [] = []
-values (None ∷ rs) = values rs
-values (Some x ∷ rs) = x ∷ values rs
+values rs = filter_map (λ r. r) rs
 
 abbrev pub shown_of : {E : Type 0} → E → (E → E → E) → List (Option E) → Option E
 shown_of start rule rs = (primitive start rule).shown (joined (primitive start rule) rs)
@@ -31,30 +27,25 @@ total_z (v ∷ vs) = v +ℤ total_z vs
 
 -- the plain sum, wrapped once
 abbrev pub ShowsSumI64 : ℤ → (ℤ → ℤ → ℤ) → Type 0
-ShowsSumI64 start rule = (rs : List (Option ℤ)) → AllByRecursion (FitsSigned w64) (values rs) → Shows (λ vs m. m ≡ int_wrap w64 (total_z vs)) (values rs) (shown_of start rule rs)
+ShowsSumI64 start rule = (rs : List (Option ℤ)) → All (FitsSigned w64) (values rs) → Shows (λ vs m. m ≡ int_wrap w64 (total_z vs)) (values rs) (shown_of start rule rs)
 
 abbrev pub ShowsSumU64 : ℕ → (ℕ → ℕ → ℕ) → Type 0
-ShowsSumU64 start rule = (rs : List (Option ℕ)) → AllByRecursion (λ v. v < 2 ^ 64) (values rs) → Shows (λ vs m. m ≡ sum vs % 2 ^ 64) (values rs) (shown_of start rule rs)
+ShowsSumU64 start rule = (rs : List (Option ℕ)) → All (λ v. v < 2 ^ 64) (values rs) → Shows (λ vs m. m ≡ sum vs % 2 ^ 64) (values rs) (shown_of start rule rs)
 
 -- ── a member that bounds all ─────────────────────────────────────────────
-abbrev pub ShowsLeast : ℤ → (ℤ → ℤ → ℤ) → Type 0
-ShowsLeast start rule = (rs : List (Option ℤ)) → Shows (λ vs m. Has vs m × AllByRecursion (λ v. m ≤ℤ v) vs) (values rs) (shown_of start rule rs)
+module _ {E : Type 0} (UpTo : E → E → Type 0) where
+  abbrev pub ShowsLeast : E → (E → E → E) → Type 0
+  ShowsLeast start rule = (rs : List (Option E)) → Shows (λ vs m. Contains vs m × All (λ v. UpTo m v) vs) (values rs) (shown_of start rule rs)
 
-abbrev pub ShowsGreatest : ℤ → (ℤ → ℤ → ℤ) → Type 0
-ShowsGreatest start rule = (rs : List (Option ℤ)) → Shows (λ vs m. Has vs m × AllByRecursion (λ v. v ≤ℤ m) vs) (values rs) (shown_of start rule rs)
-
-abbrev pub UpTo : Stamp → Stamp → Type 0
-UpTo a b = (a.second < b.second) ⊎ ((a.second ≡ b.second) × (a.depot ≤ b.depot))
-
-abbrev pub ShowsLatest : Stamp → (Stamp → Stamp → Stamp) → Type 0
-ShowsLatest start rule = (rs : List (Option Stamp)) → Shows (λ vs m. Has vs m × AllByRecursion (λ v. UpTo v m) vs) (values rs) (shown_of start rule rs)
+  abbrev pub ShowsGreatest : E → (E → E → E) → Type 0
+  ShowsGreatest start rule = (rs : List (Option E)) → Shows (λ vs m. Contains vs m × All (λ v. UpTo v m) vs) (values rs) (shown_of start rule rs)
 
 -- ── booleans ─────────────────────────────────────────────────────────────
 abbrev pub ShowsAll : Bool → (Bool → Bool → Bool) → Type 0
-ShowsAll start rule = (rs : List (Option Bool)) → Shows (λ vs m. Decides m (AllByRecursion (λ v. v ≡ true) vs)) (values rs) (shown_of start rule rs)
+ShowsAll start rule = (rs : List (Option Bool)) → Shows (λ vs m. Decides m (All (λ v. v ≡ true) vs)) (values rs) (shown_of start rule rs)
 
 abbrev pub ShowsAny : Bool → (Bool → Bool → Bool) → Type 0
-ShowsAny start rule = (rs : List (Option Bool)) → Shows (λ vs m. Decides m (Has vs true)) (values rs) (shown_of start rule rs)
+ShowsAny start rule = (rs : List (Option Bool)) → Shows (λ vs m. Decides m (Contains vs true)) (values rs) (shown_of start rule rs)
 
 abbrev pub ShowsOdd : Bool → (Bool → Bool → Bool) → Type 0
 ShowsOdd start rule = (rs : List (Option Bool)) → Shows (λ vs m. Decides m (count_by (λ v. v) vs % 2 ≡ 1)) (values rs) (shown_of start rule rs)

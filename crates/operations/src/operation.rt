@@ -1,8 +1,11 @@
-ghost use Rattle.std.specs.Prelude.{◌≡◌, ◌-◌, ◌^◌, pos, negsuc};
-ghost use Rattle.std.specs.Int.{int_min, int_max};
+ghost use Rattle.std.specs.Prelude.{◌≡◌, ◌-◌, ◌^◌, pos, refl};
+ghost use Rattle.std.specs.Ordering.{ord_min, ord_max, on, then_cmp, nat_cmp};
 ghost use Rattle.operations.specs.Primitive.{Combines};
-ghost use Rattle.operations.specs.Rules.{added_i64, added_u64, later};
-ghost use Rattle.operations.specs.Combining.{added_i64_lem, added_u64_lem, least, greatest, latest};
+ghost use Rattle.operations.specs.Rules.{added_i64, added_u64};
+ghost use Rattle.operations.specs.Combining.{added_i64_lem, added_u64_lem};
+ghost use Rattle.operations.specs.Orders.{UpTo, stamps, least, greatest};
+
+use crate::bounded::Bounded;
 
 /// A start value and a rule that combines two values. An operation is a type without values of its own.
 pub trait Operation<T> {
@@ -24,6 +27,7 @@ pub trait Operation<T> {
 }
 
 /// Adds up, wrapping at the type's ends.
+// One impl for each type: a trait of what wraps would have the members of `Operation` again, and an impl for each type too.
 #[derive(Clone, Copy)]
 pub struct Sum;
 
@@ -38,6 +42,7 @@ impl Operation<i64> for Sum {
         0
     }
 
+    #[tactic(auto, using(std::proofs::lemmas::Int::wraps))]
     fn combine(a: i64, b: i64) -> i64 {
         i64::wrapping_add(a, b)
     }
@@ -63,35 +68,21 @@ impl Operation<u64> for Sum {
 #[derive(Clone, Copy)]
 pub struct Min;
 
-impl Operation<i32> for Min {
-    ghost start = { pos (2 ^ 31 - 1) };
+impl<T: Bounded> Operation<T> for Min {
+    ghost start = { T.GREATEST };
 
-    ghost rule = { int_min };
+    ghost rule = { ord_min T.rank };
 
-    ghost combines = { least };
+    ghost combines = { least T.order };
 
-    fn starting_value() -> i32 {
-        i32::MAX
+    fn starting_value() -> T {
+        T::GREATEST
     }
 
-    fn combine(a: i32, b: i32) -> i32 {
-        i32::min(a, b)
-    }
-}
-
-impl Operation<i64> for Min {
-    ghost start = { pos (2 ^ 63 - 1) };
-
-    ghost rule = { int_min };
-
-    ghost combines = { least };
-
-    fn starting_value() -> i64 {
-        i64::MAX
-    }
-
-    fn combine(a: i64, b: i64) -> i64 {
-        i64::min(a, b)
+    fn combine(a: T, b: T) -> T {
+        a.within();
+        b.within();
+        a.min(b)
     }
 }
 
@@ -99,68 +90,56 @@ impl Operation<i64> for Min {
 #[derive(Clone, Copy)]
 pub struct Max;
 
-impl Operation<i32> for Max {
-    ghost start = { negsuc (2 ^ 31 - 1) };
+impl<T: Bounded> Operation<T> for Max {
+    ghost start = { T.LEAST };
 
-    ghost rule = { int_max };
+    ghost rule = { ord_max T.rank };
 
-    ghost combines = { greatest };
+    ghost combines = { greatest T.order };
 
-    fn starting_value() -> i32 {
-        i32::MIN
+    fn starting_value() -> T {
+        T::LEAST
     }
 
-    fn combine(a: i32, b: i32) -> i32 {
-        i32::max(a, b)
-    }
-}
-
-impl Operation<i64> for Max {
-    ghost start = { negsuc (2 ^ 63 - 1) };
-
-    ghost rule = { int_max };
-
-    ghost combines = { greatest };
-
-    fn starting_value() -> i64 {
-        i64::MIN
-    }
-
-    fn combine(a: i64, b: i64) -> i64 {
-        i64::max(a, b)
+    fn combine(a: T, b: T) -> T {
+        a.within();
+        b.within();
+        a.max(b)
     }
 }
 
-/// A moment at a depot.
-#[derive(Clone, Copy, PartialEq, Eq, Debug)]
+/// A moment at a depot: the later second is the later moment, and within a second the higher depot.
+#[derive(Clone, Copy, PartialEq, Eq, PartialOrd, Ord, Debug)]
 pub struct Stamp {
     pub second: u64,
     pub depot: u32,
 }
 
-/// The later second, and within a second the higher depot.
-#[derive(Clone, Copy)]
-pub struct Latest;
+impl Bounded for Stamp {
+    ghost LEAST = { record { second = 0; depot = 0 } };
 
-impl Operation<Stamp> for Latest {
-    ghost start = { record { second = 0; depot = 0 } };
+    ghost GREATEST = { record { second = 2 ^ 64 - 1; depot = 2 ^ 32 - 1 } };
 
-    ghost rule = { later };
+    ghost up_to = { UpTo };
 
-    ghost combines = { latest };
+    ghost rank = { then_cmp (on (λ s. s.second) nat_cmp) (on (λ s. s.depot) nat_cmp) };
 
-    fn starting_value() -> Stamp {
-        Stamp {
-            second: 0,
-            depot: 0,
-        }
-    }
+    ghost order = { stamps };
 
-    fn combine(a: Stamp, b: Stamp) -> Stamp {
-        if a.second < b.second || (a.second == b.second && a.depot < b.depot) {
-            b
-        } else {
-            a
-        }
-    }
+    ghost compares = { λ a b. refl };
+
+    const LEAST: Stamp = Stamp {
+        second: 0,
+        depot: 0,
+    };
+
+    const GREATEST: Stamp = Stamp {
+        second: u64::MAX,
+        depot: u32::MAX,
+    };
+
+    fn within(self) {}
 }
+
+/// The latest stamp is the greatest one.
+pub use Max as Latest;
