@@ -4,7 +4,7 @@ use crate::fault::Fault;
 use crate::feed::{Memory, close, feed};
 use crate::pack::{Series, Ticks, pack_series};
 use crate::part::Part;
-use crate::plan::{Plan, count_in};
+use crate::plan::{Batches, Plan};
 use crate::row::Row;
 use buffers::buffers::PrimitiveBuffers;
 use columnar::column::PrimitiveColumn;
@@ -204,15 +204,15 @@ pub fn divide(
 ) -> Result<Division, Fault> {
     let rows = day.rows.as_slice();
     let middle = rows.len() / 2;
-    let mut first = Part::new(heap, day, plan, 0, middle)?;
-    let second = Part::new(heap, day, plan, middle, rows.len())?;
+    let mut first = Part::new(heap, day, plan, 0..middle)?;
+    let second = Part::new(heap, day, plan, middle..rows.len())?;
     let indices = open_all(heap, &mut first, &second.groups)?;
     let states = states_of(heap, rows, &plan.ticks, &second, indices)?;
     let merged_rows = states.len;
     let shown = merged(heap, rows, &plan.ticks, &first, states)?;
     Ok(Division {
-        first: count_in(first.turns.as_slice(), rows, |_| true),
-        second: count_in(second.turns.as_slice(), rows, |_| true),
+        first: first.batches(rows).count(|_| true),
+        second: second.batches(rows).count(|_| true),
         states: merged_rows,
         groups: shown.len(),
         differs: first_other(&first, shown.as_slice(), grams),

@@ -36,6 +36,8 @@ impl<T: Clone + Copy> Memory<T> {
     }
 }
 
+// That an accumulator is sound stands at each function: a struct with this as its ghost field is not covered, as a bound
+// of it has ghost members.
 /// Hands over a batch of which this is the column.
 pub fn hand_over<'a, T: GroupsAccumulator<'a>>(
     acc: &mut T,

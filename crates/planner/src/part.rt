@@ -1,9 +1,11 @@
 //! Part of a day's rows, under group numbers of its own.
 use crate::day::Day;
 use crate::fault::Fault;
-use crate::plan::{Plan, Turn};
+use crate::plan::{Batches, Plan, Turn};
+use crate::row::Row;
 use indexmap::IndexSet;
 use std::alloc::Global;
+use std::ops::Range;
 
 /// The batches of an accumulator that is handed these rows alone: it opens a group with the first of them that names it.
 #[derive(Drop)]
@@ -17,22 +19,14 @@ pub struct Part {
 
 impl Part {
     /// The day's counted rows among these.
-    pub fn new(
-        heap: Global,
-        day: &Day,
-        plan: &Plan,
-        from: usize,
-        to: usize,
-    ) -> Result<Part, Fault> {
+    pub fn new(heap: Global, day: &Day, plan: &Plan, rows: Range<usize>) -> Result<Part, Fault> {
         let mut part = Part {
             turns: Vec::new(heap),
             indices: vec![in heap; 0usize; day.rows.len()]?,
             groups: IndexSet::new(heap),
         };
-        for turn in plan.turns.iter() {
-            if turn.is_counted() {
-                part.push(day, turn.from.max(from), turn.to.min(to))?;
-            }
+        for turn in plan.turns.iter().filter(|turn| turn.is_counted()) {
+            part.push(day, turn.from.max(rows.start), turn.to.min(rows.end))?;
         }
         Ok(part)
     }
@@ -62,5 +56,11 @@ impl Part {
     pub fn open(&mut self, group: usize) -> Result<usize, Fault> {
         let (number, _) = self.groups.insert_full(group)?;
         Ok(number)
+    }
+
+    /// Its batches, over the day's rows.
+    pub fn batches<'x>(&'x self, rows: &'x [Row]) -> Batches<'x> {
+        let turns = self.turns.as_slice();
+        Batches { rows, turns }
     }
 }

@@ -79,16 +79,15 @@ impl Plan {
     /// The next batch, of these rows.
     pub fn propose(&mut self, rows: &[Row]) -> Result<Turn, Fault> {
         let from = self.indices.len();
-        let mut opened = self.opened;
-        for row in rows {
-            opened = opened.max(row.group.saturating_add(1));
-            // No row names a closed group; were there one, its index would lie above every total, and be refused.
-            self.indices.push(row.group.wrapping_sub(self.closed))?;
-        }
+        let closed = self.closed;
+        // No row names a closed group; were there one, its index would lie above every total, and be refused.
+        let indices = rows.iter().map(|row| row.group.wrapping_sub(closed));
+        self.indices.extend(indices)?;
+        let opened = rows.iter().map(|row| row.group.saturating_add(1)).max();
         Ok(Turn {
             from,
             to: self.indices.len(),
-            total: opened.saturating_sub(self.closed),
+            total: opened.unwrap_or(0).max(self.opened).saturating_sub(closed),
             refusal: None,
             closes: 0,
         })
@@ -118,13 +117,22 @@ impl Plan {
     }
 }
 
-/// How many rows with this property are in the batches that were counted.
-pub fn count_in<F: Fn(&Row) -> bool>(turns: &[Turn], rows: &[Row], has: F) -> usize
-    requires { F.IsAlwaysCallable has }
-{
-    turns
-        .iter()
-        .filter(|turn| turn.is_counted())
-        .map(|turn| turn.of(rows).iter().filter(|row| has(row)).count())
-        .fold(0, usize::saturating_add)
+/// A day's rows, and the batches in which an accumulator is handed them.
+#[derive(Clone, Copy)]
+pub struct Batches<'x> {
+    pub rows: &'x [Row],
+    pub turns: &'x [Turn],
+}
+
+impl Batches<'_> {
+    /// How many rows with this property are in the batches that were counted.
+    pub fn count<F: Fn(&Row) -> bool>(self, has: F) -> usize
+        requires { F.IsAlwaysCallable has }
+    {
+        self.turns
+            .iter()
+            .filter(|turn| turn.is_counted())
+            .map(|turn| turn.of(self.rows).iter().filter(|row| has(row)).count())
+            .fold(0, usize::saturating_add)
+    }
 }

@@ -3,8 +3,7 @@ use crate::day::{BadLine, Day};
 use crate::divide::Division;
 use crate::fault::Fault;
 use crate::figures::Figures;
-use crate::plan::{Plan, Turn, count_in};
-use crate::row::Row;
+use crate::plan::{Batches, Plan};
 use crate::table::Table;
 
 fn yes_or_no(flag: &Option<bool>) -> Option<&'static str> {
@@ -40,13 +39,13 @@ fn print_groups(rt: &HostRuntime, figures: &Figures) -> Result<(), Fault> {
     table.print(rt)
 }
 
-fn print_nulls(rt: &HostRuntime, rows: &[Row], turns: &[Turn]) -> Result<(), Fault> {
-    let signed = count_in(turns, rows, |row| row.signed.is_none());
-    let grams = count_in(turns, rows, |row| row.grams.is_none());
-    let parcels = count_in(turns, rows, |row| row.parcels.is_none());
-    let floor = count_in(turns, rows, |row| row.floor.is_none());
-    let altitude = count_in(turns, rows, |row| row.altitude.is_none());
-    let moment = count_in(turns, rows, |row| row.moment.is_none());
+fn print_nulls(rt: &HostRuntime, batches: Batches<'_>) -> Result<(), Fault> {
+    let signed = batches.count(|row| row.signed.is_none());
+    let grams = batches.count(|row| row.grams.is_none());
+    let parcels = batches.count(|row| row.parcels.is_none());
+    let floor = batches.count(|row| row.floor.is_none());
+    let altitude = batches.count(|row| row.altitude.is_none());
+    let moment = batches.count(|row| row.moment.is_none());
     let all = [signed, grams, parcels, floor, altitude, moment]
         .into_iter()
         .fold(0, usize::saturating_add);
@@ -56,19 +55,19 @@ fn print_nulls(rt: &HostRuntime, rows: &[Row], turns: &[Turn]) -> Result<(), Fau
     Ok(())
 }
 
-fn print_filtered(rt: &HostRuntime, rows: &[Row], turns: &[Turn]) -> Result<(), Fault> {
-    let no = count_in(turns, rows, |row| row.delivered == Some(false));
-    let null = count_in(turns, rows, |row| row.delivered.is_none());
+fn print_filtered(rt: &HostRuntime, batches: Batches<'_>) -> Result<(), Fault> {
+    let no = batches.count(|row| row.delivered == Some(false));
+    let null = batches.count(|row| row.delivered.is_none());
     let all = no.saturating_add(null);
     println!(rt; "filtered   {all}: delivered no {no}, delivered null {null}")?;
     Ok(())
 }
 
-fn print_refused(rt: &HostRuntime, rows: &[Row], turns: &[Turn]) -> Result<(), Fault> {
-    for (k, turn) in turns.iter().enumerate() {
+fn print_refused(rt: &HostRuntime, batches: Batches<'_>) -> Result<(), Fault> {
+    for (k, turn) in batches.turns.iter().enumerate() {
         if let Some(refusal) = turn.refusal {
             let batch = k.saturating_add(1);
-            let rows = turn.of(rows);
+            let rows = turn.of(batches.rows);
             let first = rows.first().map_or(0, |row| row.line);
             let last = rows.last().map_or(0, |row| row.line);
             let number = refusal.number();
@@ -81,6 +80,8 @@ fn print_refused(rt: &HostRuntime, rows: &[Row], turns: &[Turn]) -> Result<(), F
 }
 
 fn print_bad_lines(rt: &HostRuntime, day: &Day) -> Result<(), Fault> {
+    let bad = day.bad_lines.len();
+    println!(rt; "bad lines  {bad}")?;
     for BadLine { line, flaw } in day.bad_lines.iter() {
         println!(rt; "           line {line}: {flaw}")?;
     }
@@ -88,17 +89,12 @@ fn print_bad_lines(rt: &HostRuntime, day: &Day) -> Result<(), Fault> {
 }
 
 /// What was counted. Of a refused batch nothing is.
-fn print_counts(
-    rt: &HostRuntime,
-    rows: &[Row],
-    turns: &[Turn],
-    groups: usize,
-) -> Result<(), Fault> {
-    let read = rows.len();
-    let counted = count_in(turns, rows, |_| true);
+fn print_counts(rt: &HostRuntime, batches: Batches<'_>, groups: usize) -> Result<(), Fault> {
+    let read = batches.rows.len();
+    let counted = batches.count(|_| true);
     println!(rt; "rows       {counted} counted, of {read} read")?;
-    print_nulls(rt, rows, turns)?;
-    print_filtered(rt, rows, turns)?;
+    print_nulls(rt, batches)?;
+    print_filtered(rt, batches)?;
     println!(rt; "groups     {groups}")?;
     Ok(())
 }
@@ -132,14 +128,15 @@ fn print_divided(rt: &HostRuntime, divided: Result<Division, Fault>) -> Result<(
     }
 }
 
-fn print_batches(rt: &HostRuntime, day: &Day, turns: &[Turn]) -> Result<(), Fault> {
-    let batches = turns.len();
-    let refused = turns.iter().filter(|turn| !turn.is_counted()).count();
-    let bad = day.bad_lines.len();
-    println!(rt; "batches    {batches}, of which refused {refused}")?;
-    print_refused(rt, day.rows.as_slice(), turns)?;
-    println!(rt; "bad lines  {bad}")?;
-    print_bad_lines(rt, day)
+fn print_batches(rt: &HostRuntime, batches: Batches<'_>) -> Result<(), Fault> {
+    let turns = batches.turns.len();
+    let refused = batches
+        .turns
+        .iter()
+        .filter(|turn| !turn.is_counted())
+        .count();
+    println!(rt; "batches    {turns}, of which refused {refused}")?;
+    print_refused(rt, batches)
 }
 
 pub fn print_report(
@@ -149,10 +146,14 @@ pub fn print_report(
     figures: &Figures,
     divided: Result<Division, Fault>,
 ) -> Result<(), Fault> {
-    let turns = plan.turns.as_slice();
+    let batches = Batches {
+        rows: day.rows.as_slice(),
+        turns: plan.turns.as_slice(),
+    };
     print_groups(rt, figures)?;
     println!(rt; "")?;
-    print_counts(rt, day.rows.as_slice(), turns, figures.grams.len())?;
+    print_counts(rt, batches, figures.grams.len())?;
     print_divided(rt, divided)?;
-    print_batches(rt, day, turns)
+    print_batches(rt, batches)?;
+    print_bad_lines(rt, day)
 }
