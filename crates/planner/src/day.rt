@@ -1,7 +1,6 @@
-//! A day's rows, column by column, as the file has them.
+//! A day's rows, as the file has them.
 use crate::fault::Fault;
-use crate::row::{Flaw, HEADER, Row, parse_row};
-use operations::operation::Stamp;
+use crate::row::{Flaw, HEADER, Row};
 use std::alloc::Global;
 
 /// A line that is no row. It is reported, and the others are counted.
@@ -13,74 +12,36 @@ pub struct BadLine {
 
 #[derive(Drop)]
 pub struct Day {
-    /// Each row's line, and its group's opening number.
-    pub lines: Vec<usize>,
-    pub groups: Vec<usize>,
-    pub delivered: Vec<Option<bool>>,
-    pub signed: Vec<Option<bool>>,
-    pub grams: Vec<Option<i64>>,
-    pub parcels: Vec<Option<u64>>,
-    pub floor: Vec<Option<i32>>,
-    pub altitude: Vec<Option<i64>>,
-    pub moment: Vec<Option<Stamp>>,
+    pub rows: Vec<Row>,
     pub bad_lines: Vec<BadLine>,
 }
 
 impl Day {
-    fn new(heap: Global) -> Day {
-        Day {
-            lines: Vec::new(heap),
-            groups: Vec::new(heap),
-            delivered: Vec::new(heap),
-            signed: Vec::new(heap),
-            grams: Vec::new(heap),
-            parcels: Vec::new(heap),
-            floor: Vec::new(heap),
-            altitude: Vec::new(heap),
-            moment: Vec::new(heap),
-            bad_lines: Vec::new(heap),
-        }
-    }
-
-    fn push(&mut self, line: usize, row: Row) -> Result<(), Fault> {
-        self.lines.push(line)?;
-        self.groups.push(row.group)?;
-        self.delivered.push(row.delivered)?;
-        self.signed.push(row.signed)?;
-        self.grams.push(row.grams)?;
-        self.parcels.push(row.parcels)?;
-        self.floor.push(row.floor)?;
-        self.altitude.push(row.altitude)?;
-        self.moment.push(row.moment)?;
-        Ok(())
-    }
-
-    fn read_line(&mut self, line: usize, text: &str) -> Result<(), Fault> {
-        match parse_row(text) {
-            Ok(row) => self.push(line, row),
-            Err(flaw) => {
-                self.bad_lines.push(BadLine { line, flaw })?;
-                Ok(())
-            }
-        }
-    }
-
     /// Reads a whole file: the header, then a row a line. Lines with nothing on them are passed over.
     pub fn read(heap: Global, text: &str) -> Result<Day, Fault> {
-        let mut day = Day::new(heap);
-        let mut line: usize = 0;
-        for text in text.lines() {
-            line = line.saturating_add(1);
-            if line == 1 {
-                if text.trim() != HEADER {
-                    return Err(Fault::Header);
-                }
-            } else if !text.trim().is_empty() {
-                day.read_line(line, text)?;
-            }
-        }
-        if line == 0 {
+        let mut day = Day {
+            rows: Vec::new(heap),
+            bad_lines: Vec::new(heap),
+        };
+        let mut lines = text.lines().enumerate();
+        let header = lines.next().map(|(_, text)| text.trim());
+        if header != Some(HEADER) {
             return Err(Fault::Header);
+        }
+        for (k, text) in lines {
+            if text.trim().is_empty() {
+                continue;
+            }
+            // Spaces around a field do not count.
+            let fields = text
+                .split(',')
+                .map(|field| field.trim())
+                .collect::<Vec<&str>>(heap)?;
+            let line = k.saturating_add(1);
+            match Row::read(line, fields.as_slice()) {
+                Ok(row) => day.rows.push(row)?,
+                Err(flaw) => day.bad_lines.push(BadLine { line, flaw })?,
+            }
         }
         Ok(day)
     }

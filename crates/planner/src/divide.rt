@@ -4,7 +4,8 @@ use crate::fault::Fault;
 use crate::feed::{Memory, close, feed};
 use crate::pack::{Series, Ticks, pack_series};
 use crate::part::Part;
-use crate::plan::{Plan, rows_in};
+use crate::plan::{Batches, Plan};
+use crate::row::Row;
 use buffers::buffers::PrimitiveBuffers;
 use columnar::column::PrimitiveColumn;
 use columnar::mask::Mask;
@@ -12,6 +13,7 @@ use columnar::refusal::Refusal;
 use groups::emit::EmitTo;
 use groups::groups_accumulator::GroupsAccumulator;
 use groups::limits::MOST;
+use indexmap::IndexSet;
 use operations::operation::Sum;
 use prim_op::prim_op::PrimitiveGroupsAccumulator;
 use std::alloc::Global;
@@ -76,12 +78,12 @@ fn peek_part<
 /// A part's state rows, to be merged into these groups.
 fn states_of(
     heap: Global,
-    cells: &[Option<i64>],
+    rows: &[Row],
     ticks: &Ticks,
     part: &Part,
     indices: Vec<usize>,
 ) -> Result<States, Fault> {
-    let series = pack_series(heap, cells, 0i64)?;
+    let series = pack_series(heap, rows, |row| row.grams, 0i64)?;
     let groups = part.groups.len();
     let mut memory = Memory::new(heap, 0i64, groups)?;
     let mut acc = PrimitiveGroupsAccumulator::new(
@@ -153,12 +155,12 @@ fn merge_part<
 /// What a part's groups show once the state rows are merged into them.
 fn merged(
     heap: Global,
-    cells: &[Option<i64>],
+    rows: &[Row],
     ticks: &Ticks,
     part: &Part,
     states: States,
 ) -> Result<Vec<Option<i64>>, Fault> {
-    let series = pack_series(heap, cells, 0i64)?;
+    let series = pack_series(heap, rows, |row| row.grams, 0i64)?;
     let groups = part.groups.len();
     let mut memory = Memory::new(heap, 0i64, groups)?;
     let mut acc = PrimitiveGroupsAccumulator::new(
@@ -177,7 +179,7 @@ fn merged(
 }
 
 /// Finds the groups of one part in another, where those that are new get the next numbers.
-fn open_all(heap: Global, part: &mut Part, groups: &[usize]) -> Result<Vec<usize>, Fault> {
+fn open_all(heap: Global, part: &mut Part, groups: &IndexSet<usize>) -> Result<Vec<usize>, Fault> {
     let mut indices = Vec::new(heap);
     for group in groups {
         indices.push(part.open(*group)?)?;
@@ -187,13 +189,10 @@ fn open_all(heap: Global, part: &mut Part, groups: &[usize]) -> Result<Vec<usize
 
 /// The first group for which a part does not show the day's figure.
 fn first_other(part: &Part, shown: &[Option<i64>], grams: &[Option<i64>]) -> Option<usize> {
-    for (group, figure) in grams.iter().enumerate() {
-        let number = part.find(group).unwrap_or(shown.len());
-        if shown.get(number) != Some(figure) {
-            return Some(group);
-        }
-    }
-    None
+    grams.iter().enumerate().position(|(group, figure)| {
+        let number = part.groups.get_index_of(&group);
+        number.and_then(|number| shown.get(number)) != Some(figure)
+    })
 }
 
 /// Divides the day's rows at the middle, and compares what the two parts make together with the undivided day's grams.
@@ -203,17 +202,17 @@ pub fn divide(
     plan: &Plan,
     grams: &[Option<i64>],
 ) -> Result<Division, Fault> {
-    let rows = day.groups.len();
-    let cells = day.grams.as_slice();
-    let mut first = Part::new(heap, day, plan, grams.len(), 0, rows / 2)?;
-    let second = Part::new(heap, day, plan, grams.len(), rows / 2, rows)?;
-    let indices = open_all(heap, &mut first, second.groups.as_slice())?;
-    let states = states_of(heap, cells, &plan.ticks, &second, indices)?;
+    let rows = day.rows.as_slice();
+    let middle = rows.len() / 2;
+    let mut first = Part::new(heap, day, plan, 0..middle)?;
+    let second = Part::new(heap, day, plan, middle..rows.len())?;
+    let indices = open_all(heap, &mut first, &second.groups)?;
+    let states = states_of(heap, rows, &plan.ticks, &second, indices)?;
     let merged_rows = states.len;
-    let shown = merged(heap, cells, &plan.ticks, &first, states)?;
+    let shown = merged(heap, rows, &plan.ticks, &first, states)?;
     Ok(Division {
-        first: rows_in(first.turns.as_slice()),
-        second: rows_in(second.turns.as_slice()),
+        first: first.batches(rows).count(|_| true),
+        second: second.batches(rows).count(|_| true),
         states: merged_rows,
         groups: shown.len(),
         differs: first_other(&first, shown.as_slice(), grams),

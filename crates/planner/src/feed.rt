@@ -2,6 +2,7 @@
 use crate::fault::Fault;
 use crate::pack::{Series, Ticks, pack_series};
 use crate::plan::{Plan, Turn};
+use crate::row::Row;
 use buffers::buffers::PrimitiveBuffers;
 use buffers::pack::bytes_for;
 use columnar::column::PrimitiveColumn;
@@ -35,6 +36,8 @@ impl<T: Clone + Copy> Memory<T> {
     }
 }
 
+// That an accumulator is sound stands at each function: a struct with this as its ghost field is not covered, as a bound
+// of it has ghost members.
 /// Hands over a batch of which this is the column.
 pub fn hand_over<'a, T: GroupsAccumulator<'a>>(
     acc: &mut T,
@@ -46,7 +49,7 @@ pub fn hand_over<'a, T: GroupsAccumulator<'a>>(
     requires { T.GroupsAccumulator.sound acc.old }
     ensures { T.GroupsAccumulator.sound acc.new }
 {
-    let indices = indices.get(turn.from..turn.to).unwrap_or(&[]);
+    let indices = turn.of(indices);
     let (made, yes) = Mask::new(ticks.yes.as_slice(), turn.from, indices.len());
     made?;
     let (made, mask) = Mask::new(ticks.mask.as_slice(), turn.from, indices.len());
@@ -67,7 +70,7 @@ pub fn feed<'a, V: Copy, T: GroupsAccumulator<'a, Values = PrimitiveColumn<'a, V
     requires { T.GroupsAccumulator.sound acc.old }
     ensures { T.GroupsAccumulator.sound acc.new }
 {
-    let values = series.values.get(turn.from..turn.to).unwrap_or(&[]);
+    let values = turn.of(series.values.as_slice());
     let (made, mask) = Mask::new(series.mask.as_slice(), turn.from, values.len());
     made?;
     let (made, column) = PrimitiveColumn::new(values, mask);
@@ -136,14 +139,14 @@ fn lead<
     acc: &mut T,
     heap: Global,
     series: &'a Series<V>,
-    groups: &[usize],
+    rows: &[Row],
     plan: &mut Plan,
     out: &mut PrimitiveBuffers<'a, V>,
 ) -> Result<Vec<Option<V>>, Fault>
     requires { T.GroupsAccumulator.sound acc.old }
 {
     let mut shown = Vec::new(heap);
-    for part in groups.chunks(plan.size.max(1)) {
+    for part in rows.chunks(plan.size.get()) {
         let turn = plan.propose(part)?;
         let refusal = feed(acc, series, &plan.ticks, plan.indices.as_slice(), turn).err();
         let closes = plan.settle(turn, refusal)?;
@@ -169,7 +172,7 @@ fn follow<
 {
     let mut shown = Vec::new(heap);
     for turn in plan.turns.iter() {
-        if turn.refusal.is_none() {
+        if turn.is_counted() {
             feed(acc, series, &plan.ticks, plan.indices.as_slice(), *turn)?;
         }
         close(acc, EmitTo::First(turn.closes), out, &mut shown)?;
@@ -179,15 +182,17 @@ fn follow<
 }
 
 /// Each group's figure, in the order of their opening, by the accumulator that makes the plan.
-pub fn lead_with<V: Clone + Copy, O: Operation<V> + Drop>(
+pub fn lead_with<V: Clone + Copy, O: Operation<V> + Drop, F: Fn(&Row) -> Option<V>>(
     heap: Global,
     op: O,
-    cells: &[Option<V>],
-    groups: &[usize],
+    rows: &[Row],
+    cell: F,
     plan: &mut Plan,
-) -> Result<Vec<Option<V>>, Fault> {
+) -> Result<Vec<Option<V>>, Fault>
+    requires { F.IsAlwaysCallable cell }
+{
     let start = O::starting_value();
-    let series = pack_series(heap, cells, start)?;
+    let series = pack_series(heap, rows, cell, start)?;
     let mut memory = Memory::new(heap, start, plan.most_groups)?;
     let mut acc = PrimitiveGroupsAccumulator::new(
         &mut memory.values,
@@ -197,18 +202,21 @@ pub fn lead_with<V: Clone + Copy, O: Operation<V> + Drop>(
         plan.most_groups,
     );
     let mut out = PrimitiveBuffers::new(&mut memory.shown, &mut memory.bits);
-    lead(&mut acc, heap, &series, groups, plan, &mut out)
+    lead(&mut acc, heap, &series, rows, plan, &mut out)
 }
 
 /// Each group's figure, in the order of their opening.
-pub fn follow_with<V: Clone + Copy, O: Operation<V> + Drop>(
+pub fn follow_with<V: Clone + Copy, O: Operation<V> + Drop, F: Fn(&Row) -> Option<V>>(
     heap: Global,
     op: O,
-    cells: &[Option<V>],
+    rows: &[Row],
+    cell: F,
     plan: &Plan,
-) -> Result<Vec<Option<V>>, Fault> {
+) -> Result<Vec<Option<V>>, Fault>
+    requires { F.IsAlwaysCallable cell }
+{
     let start = O::starting_value();
-    let series = pack_series(heap, cells, start)?;
+    let series = pack_series(heap, rows, cell, start)?;
     let mut memory = Memory::new(heap, start, plan.most_groups)?;
     let mut acc = PrimitiveGroupsAccumulator::new(
         &mut memory.values,

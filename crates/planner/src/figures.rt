@@ -8,6 +8,7 @@ use operations::operation::{Latest, Max, Min, Stamp, Sum};
 use std::alloc::Global;
 
 /// A figure for each group, in the order of their opening.
+// A list for each figure: so the accumulators answer, one after another, and so the table has its columns.
 #[derive(Drop)]
 pub struct Figures {
     pub all_signed: Vec<Option<bool>>,
@@ -24,20 +25,18 @@ pub struct Figures {
 impl Figures {
     /// Feeds one accumulator after another. The first makes the plan, and the others follow it.
     pub fn new(heap: Global, day: &Day, plan: &mut Plan) -> Result<Figures, Fault> {
-        let floor = day.floor.as_slice();
-        let altitude = day.altitude.as_slice();
-        let signed = day.signed.as_slice();
-        let grams = lead_with(heap, Sum, day.grams.as_slice(), day.groups.as_slice(), plan)?;
+        let rows = day.rows.as_slice();
+        let grams = lead_with(heap, Sum, rows, |row| row.grams, plan)?;
         Ok(Figures {
-            all_signed: all_flags(heap, signed, plan)?,
-            any_signed: any_flags(heap, signed, plan)?,
+            all_signed: all_flags(heap, rows, |row| row.signed, plan)?,
+            any_signed: any_flags(heap, rows, |row| row.signed, plan)?,
             grams,
-            parcels: follow_with(heap, Sum, day.parcels.as_slice(), plan)?,
-            least_floor: follow_with(heap, Min, floor, plan)?,
-            greatest_floor: follow_with(heap, Max, floor, plan)?,
-            least_altitude: follow_with(heap, Min, altitude, plan)?,
-            greatest_altitude: follow_with(heap, Max, altitude, plan)?,
-            latest: follow_with(heap, Latest, day.moment.as_slice(), plan)?,
+            parcels: follow_with(heap, Sum, rows, |row| row.parcels, plan)?,
+            least_floor: follow_with(heap, Min, rows, |row| row.floor, plan)?,
+            greatest_floor: follow_with(heap, Max, rows, |row| row.floor, plan)?,
+            least_altitude: follow_with(heap, Min, rows, |row| row.altitude, plan)?,
+            greatest_altitude: follow_with(heap, Max, rows, |row| row.altitude, plan)?,
+            latest: follow_with(heap, Latest, rows, |row| row.moment, plan)?,
         })
     }
 }

@@ -3,6 +3,7 @@ use crate::fault::Fault;
 use crate::feed::hand_over;
 use crate::pack::{Ticks, pack_ticks};
 use crate::plan::{Plan, Turn};
+use crate::row::Row;
 use buffers::buffers::BooleanBuffers;
 use buffers::pack::bytes_for;
 use columnar::boolean::BooleanColumn;
@@ -107,7 +108,7 @@ fn follow_flags<
 {
     let mut shown = Vec::new(heap);
     for turn in plan.turns.iter() {
-        if turn.refusal.is_none() {
+        if turn.is_counted() {
             feed_flags(acc, flags, plan, *turn)?;
         }
         close_flags(acc, EmitTo::First(turn.closes), out, &mut shown)?;
@@ -117,12 +118,15 @@ fn follow_flags<
 }
 
 /// Whether all of a group's flags are set, in the order of the groups' opening.
-pub fn all_flags(
+pub fn all_flags<F: Fn(&Row) -> Option<bool>>(
     heap: Global,
-    cells: &[Option<bool>],
+    rows: &[Row],
+    cell: F,
     plan: &Plan,
-) -> Result<Vec<Option<bool>>, Fault> {
-    let flags = pack_ticks(heap, cells)?;
+) -> Result<Vec<Option<bool>>, Fault>
+    requires { F.IsAlwaysCallable cell }
+{
+    let flags = pack_ticks(heap, rows, cell)?;
     let mut memory = FlagMemory::new(heap, plan.most_groups)?;
     let mut acc = BooleanGroupsAccumulator::new(
         &mut memory.values,
@@ -136,12 +140,15 @@ pub fn all_flags(
 }
 
 /// Whether one of them is set.
-pub fn any_flags(
+pub fn any_flags<F: Fn(&Row) -> Option<bool>>(
     heap: Global,
-    cells: &[Option<bool>],
+    rows: &[Row],
+    cell: F,
     plan: &Plan,
-) -> Result<Vec<Option<bool>>, Fault> {
-    let flags = pack_ticks(heap, cells)?;
+) -> Result<Vec<Option<bool>>, Fault>
+    requires { F.IsAlwaysCallable cell }
+{
+    let flags = pack_ticks(heap, rows, cell)?;
     let mut memory = FlagMemory::new(heap, plan.most_groups)?;
     let mut acc = BooleanGroupsAccumulator::new(
         &mut memory.values,

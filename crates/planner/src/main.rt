@@ -26,12 +26,9 @@ use std::process::ExitCode;
 use std::{env, fs};
 
 /// Reads the file. Bytes that are no text become a mark that no field takes, so that their line is reported.
-fn read_day(rt: &HostRuntime, file: &str) -> Result<Day, Fault> {
+fn read_day(rt: &HostRuntime, file: String) -> Result<Day, Fault> {
     let heap = rt.alloc();
-    let bytes = match fs::read(rt, file) {
-        Ok(bytes) => bytes,
-        Err(error) => return Err(Fault::File(String::from_str(heap, file)?, error)),
-    };
+    let bytes = fs::read(rt, file.as_str()).map_err(|error| Fault::File(file, error))?;
     let text = String::from_utf8_lossy(heap, bytes.as_slice())?;
     Day::read(heap, text.as_str())
 }
@@ -39,7 +36,7 @@ fn read_day(rt: &HostRuntime, file: &str) -> Result<Day, Fault> {
 fn run(rt: &HostRuntime) -> Result<(), Fault> {
     let heap = rt.alloc();
     let options = Options::read(env::args(rt)?)?;
-    let day = read_day(rt, options.file.as_str())?;
+    let day = read_day(rt, options.file)?;
     let mut plan = Plan::new(heap, &day, options.rows, options.groups)?;
     let figures = Figures::new(heap, &day, &mut plan)?;
     let division = divide(heap, &day, &plan, figures.grams.as_slice());

@@ -2,6 +2,7 @@
 use crate::fault::Fault;
 use groups::limits::MOST;
 use std::env;
+use std::num::NonZeroUsize;
 
 const ROWS: usize = 4096;
 
@@ -9,37 +10,27 @@ const ROWS: usize = 4096;
 pub struct Options {
     pub file: String,
     /// The rows of a batch.
-    pub rows: usize,
+    pub rows: NonZeroUsize,
     /// The most groups that are kept.
     pub groups: usize,
 }
 
-fn number_or(arg: Option<String>, default: usize) -> Result<usize, Fault> {
-    let Some(text) = arg else {
-        return Ok(default);
-    };
-    match text.as_str().parse::<usize>() {
-        Ok(n) if n > 0 => Ok(n),
-        _ => Err(Fault::Usage),
-    }
+fn number(arg: Option<String>) -> Result<Option<NonZeroUsize>, Fault> {
+    arg.map(|text| text.as_str().parse())
+        .transpose()
+        .map_err(|_| Fault::Usage)
 }
 
 impl Options {
     /// Reads the words after the program's own name.
     pub fn read(mut args: env::Args) -> Result<Options, Fault> {
         let _ = args.next();
-        let Some(file) = args.next() else {
-            return Err(Fault::Usage);
-        };
-        let rows = number_or(args.next(), ROWS)?;
-        let groups = number_or(args.next(), MOST)?;
+        let file = args.next().ok_or(Fault::Usage)?;
+        let rows = number(args.next())?.unwrap_or(NonZeroUsize::new(ROWS).unwrap());
+        let groups = number(args.next())?.map_or(MOST, |n| n.get().min(MOST));
         if args.next().is_some() {
             return Err(Fault::Usage);
         }
-        Ok(Options {
-            file,
-            rows,
-            groups: groups.min(MOST),
-        })
+        Ok(Options { file, rows, groups })
     }
 }

@@ -1,4 +1,5 @@
 //! Columns of optional cells, packed as the views read them.
+use crate::row::Row;
 use buffers::pack::{bytes_for, write_bits};
 use columnar::column::PrimitiveColumn;
 use columnar::filter::Filter;
@@ -27,29 +28,33 @@ fn pack_bits(heap: Global, bits: &[bool]) -> Result<Vec<u8>, AllocError> {
     Ok(bytes)
 }
 
-pub fn pack_series<T: Copy>(
+pub fn pack_series<T: Copy, F: Fn(&Row) -> Option<T>>(
     heap: Global,
-    cells: &[Option<T>],
+    rows: &[Row],
+    cell: F,
     filler: T,
-) -> Result<Series<T>, AllocError> {
+) -> Result<Series<T>, AllocError>
+    requires { F.IsAlwaysCallable cell }
+{
     let mut values = Vec::new(heap);
     let mut valid = Vec::new(heap);
-    for cell in cells {
-        values.push((*cell).unwrap_or(filler))?;
+    for row in rows {
+        let cell = cell(row);
+        values.push(cell.unwrap_or(filler))?;
         valid.push(cell.is_some())?;
     }
     let mask = pack_bits(heap, valid.as_slice())?;
     Ok(Series { values, mask })
 }
 
-pub fn pack_ticks(heap: Global, cells: &[Option<bool>]) -> Result<Ticks, AllocError> {
-    let mut yes = Vec::new(heap);
-    let mut valid = Vec::new(heap);
-    for cell in cells {
-        yes.push((*cell).unwrap_or(false))?;
-        valid.push(cell.is_some())?;
-    }
-    let yes = pack_bits(heap, yes.as_slice())?;
-    let mask = pack_bits(heap, valid.as_slice())?;
+pub fn pack_ticks<F: Fn(&Row) -> Option<bool>>(
+    heap: Global,
+    rows: &[Row],
+    cell: F,
+) -> Result<Ticks, AllocError>
+    requires { F.IsAlwaysCallable cell }
+{
+    let Series { values, mask } = pack_series(heap, rows, cell, false)?;
+    let yes = pack_bits(heap, values.as_slice())?;
     Ok(Ticks { yes, mask })
 }

@@ -2,12 +2,15 @@
 use crate::day::Day;
 use crate::fault::Fault;
 use crate::pack::{Ticks, pack_ticks};
+use crate::row::Row;
 use columnar::refusal::Refusal;
 use std::alloc::{AllocError, Global};
+use std::num::NonZeroUsize;
 
 /// A batch: its rows, how many groups are kept with it, its refusal, and how many groups are closed after it.
 #[derive(Clone, Copy)]
 pub struct Turn {
+    // Not a `Range`: that is no `Copy`, and its copy may fail.
     pub from: usize,
     pub to: usize,
     pub total: usize,
@@ -15,10 +18,22 @@ pub struct Turn {
     pub closes: usize,
 }
 
+impl Turn {
+    /// Whether its rows were counted.
+    pub fn is_counted(&self) -> bool {
+        self.refusal.is_none()
+    }
+
+    /// What lies at its rows.
+    pub fn of<'x, T>(&self, column: &'x [T]) -> &'x [T] {
+        column.get(self.from..self.to).unwrap_or(&[])
+    }
+}
+
 #[derive(Drop)]
 pub struct Plan {
     /// The rows of a batch, and the most groups that are kept.
-    pub size: usize,
+    pub size: NonZeroUsize,
     pub most_groups: usize,
     pub ticks: Ticks,
     /// Each row's group as it is handed over: its opening number, less the groups closed before its batch.
@@ -31,11 +46,11 @@ pub struct Plan {
 }
 
 /// A group opens with a row that names it, so none opens from the number of rows on.
-fn group_ends(heap: Global, groups: &[usize]) -> Result<Vec<usize>, AllocError> {
-    let mut ends = vec![in heap; 0usize; groups.len()]?;
-    for (row, group) in groups.iter().enumerate() {
-        if *group < ends.len() {
-            ends[*group] = row + 1;
+fn group_ends(heap: Global, rows: &[Row]) -> Result<Vec<usize>, AllocError> {
+    let mut ends = vec![in heap; 0usize; rows.len()]?;
+    for (k, row) in rows.iter().enumerate() {
+        if let Some(end) = ends.get_mut(row.group) {
+            *end = k + 1;
         }
     }
     Ok(ends)
@@ -45,34 +60,34 @@ impl Plan {
     pub fn new(
         heap: Global,
         day: &Day,
-        size: usize,
+        size: NonZeroUsize,
         most_groups: usize,
     ) -> Result<Plan, AllocError> {
+        let rows = day.rows.as_slice();
         Ok(Plan {
             size,
             most_groups,
-            ticks: pack_ticks(heap, day.delivered.as_slice())?,
+            ticks: pack_ticks(heap, rows, |row| row.delivered)?,
             indices: Vec::new(heap),
             turns: Vec::new(heap),
-            ends: group_ends(heap, day.groups.as_slice())?,
+            ends: group_ends(heap, rows)?,
             opened: 0,
             closed: 0,
         })
     }
 
-    /// The next batch, of rows in these groups.
-    pub fn propose(&mut self, groups: &[usize]) -> Result<Turn, Fault> {
+    /// The next batch, of these rows.
+    pub fn propose(&mut self, rows: &[Row]) -> Result<Turn, Fault> {
         let from = self.indices.len();
-        let mut opened = self.opened;
-        for group in groups {
-            opened = opened.max(group.saturating_add(1));
-            // No row names a closed group; were there one, its index would lie above every total, and be refused.
-            self.indices.push(group.wrapping_sub(self.closed))?;
-        }
+        let closed = self.closed;
+        // No row names a closed group; were there one, its index would lie above every total, and be refused.
+        let indices = rows.iter().map(|row| row.group.wrapping_sub(closed));
+        self.indices.extend(indices)?;
+        let opened = rows.iter().map(|row| row.group.saturating_add(1)).max();
         Ok(Turn {
             from,
             to: self.indices.len(),
-            total: opened.saturating_sub(self.closed),
+            total: opened.unwrap_or(0).max(self.opened).saturating_sub(closed),
             refusal: None,
             closes: 0,
         })
@@ -81,18 +96,15 @@ impl Plan {
     /// How many of the first kept groups no row from `to` on names.
     fn complete(&self, to: usize) -> usize {
         let kept = self.opened.saturating_sub(self.closed);
-        for (n, end) in self.ends.iter().skip(self.closed).take(kept).enumerate() {
-            if *end > to {
-                return n;
-            }
-        }
-        kept
+        let ends = self.ends.get(self.closed..).unwrap_or(&[]);
+        let first = ends.iter().take(kept).position(|end| *end > to);
+        first.unwrap_or(kept)
     }
 
     /// Notes what became of a batch, and answers how many groups are closed after it. A refused batch opens none.
     pub fn settle(&mut self, mut turn: Turn, refusal: Option<Refusal>) -> Result<usize, Fault> {
         turn.refusal = refusal;
-        if refusal.is_none() {
+        if turn.is_counted() {
             self.opened = self.closed.saturating_add(turn.total);
         }
         // What is left after the last batch is closed all at once.
@@ -105,13 +117,22 @@ impl Plan {
     }
 }
 
-/// The rows of the batches that were counted.
-pub fn rows_in(turns: &[Turn]) -> usize {
-    let mut n: usize = 0;
-    for turn in turns {
-        if turn.refusal.is_none() {
-            n = n.saturating_add(turn.to.saturating_sub(turn.from));
-        }
+/// A day's rows, and the batches in which an accumulator is handed them.
+#[derive(Clone, Copy)]
+pub struct Batches<'x> {
+    pub rows: &'x [Row],
+    pub turns: &'x [Turn],
+}
+
+impl Batches<'_> {
+    /// How many rows with this property are in the batches that were counted.
+    pub fn count<F: Fn(&Row) -> bool>(self, has: F) -> usize
+        requires { F.IsAlwaysCallable has }
+    {
+        self.turns
+            .iter()
+            .filter(|turn| turn.is_counted())
+            .map(|turn| turn.of(self.rows).iter().filter(|row| has(row)).count())
+            .fold(0, usize::saturating_add)
     }
-    n
 }

@@ -1,154 +1,75 @@
 //! The report: a table with a line for each group, and below it what was done.
-use crate::day::Day;
+use crate::day::{BadLine, Day};
 use crate::divide::Division;
 use crate::fault::Fault;
 use crate::figures::Figures;
-use crate::plan::{Plan, Turn, rows_in};
-use crate::table::{Column, print_table};
-use operations::operation::Stamp;
-use std::alloc::Global;
+use crate::plan::{Batches, Plan};
+use crate::table::Table;
 
-fn number_column(heap: Global, groups: usize) -> Result<Column, Fault> {
-    let mut column = Column::new(heap, "group");
-    for group in 0..groups {
-        column.push(heap, &Some(group))?;
-    }
-    Ok(column)
-}
-
-fn second_column(heap: Global, latest: &[Option<Stamp>]) -> Result<Column, Fault> {
-    let mut column = Column::new(heap, "latest second");
-    for moment in latest {
-        match moment {
-            Some(stamp) => column.push(heap, &Some(stamp.second))?,
-            None => column.push::<u64>(heap, &None)?,
-        }
-    }
-    Ok(column)
-}
-
-fn depot_column(heap: Global, latest: &[Option<Stamp>]) -> Result<Column, Fault> {
-    let mut column = Column::new(heap, "at depot");
-    for moment in latest {
-        match moment {
-            Some(stamp) => column.push(heap, &Some(stamp.depot))?,
-            None => column.push::<u32>(heap, &None)?,
-        }
-    }
-    Ok(column)
-}
-
-fn flag_column(heap: Global, head: &'static str, flags: &[Option<bool>]) -> Result<Column, Fault> {
-    let mut column = Column::new(heap, head);
-    for flag in flags {
-        match *flag {
-            Some(true) => column.push(heap, &Some("yes"))?,
-            Some(false) => column.push(heap, &Some("no"))?,
-            None => column.push::<&str>(heap, &None)?,
-        }
-    }
-    Ok(column)
+fn yes_or_no(flag: &Option<bool>) -> Option<&'static str> {
+    flag.map(|flag| if flag { "yes" } else { "no" })
 }
 
 fn print_groups(rt: &HostRuntime, figures: &Figures) -> Result<(), Fault> {
-    let heap = rt.alloc();
-    let groups = figures.grams.len();
-    let mut columns = Vec::new(heap);
-    columns.push(number_column(heap, groups)?)?;
-    columns.push(flag_column(heap, "all signed", figures.all_signed.as_slice())?)?;
-    columns.push(flag_column(heap, "any signed", figures.any_signed.as_slice())?)?;
-    columns.push(Column::of(heap, "grams", figures.grams.as_slice())?)?;
-    columns.push(Column::of(heap, "parcels", figures.parcels.as_slice())?)?;
-    columns.push(Column::of(heap, "least floor", figures.least_floor.as_slice())?)?;
-    columns.push(Column::of(heap, "greatest floor", figures.greatest_floor.as_slice())?)?;
-    columns.push(Column::of(heap, "least altitude", figures.least_altitude.as_slice())?)?;
-    columns.push(Column::of(
-        heap,
-        "greatest altitude",
-        figures.greatest_altitude.as_slice(),
-    )?)?;
-    columns.push(second_column(heap, figures.latest.as_slice())?)?;
-    columns.push(depot_column(heap, figures.latest.as_slice())?)?;
-    print_table(rt, columns.as_slice(), groups)
+    let Figures {
+        all_signed,
+        any_signed,
+        grams,
+        parcels,
+        least_floor,
+        greatest_floor,
+        least_altitude,
+        greatest_altitude,
+        latest,
+    } = figures;
+    let seconds = latest.iter().map(|moment| moment.map(|stamp| stamp.second));
+    let depots = latest.iter().map(|moment| moment.map(|stamp| stamp.depot));
+    let mut table = Table::new(rt.alloc());
+    table.add("group", (0..grams.len()).map(Some))?;
+    table.add("all signed", all_signed.iter().map(yes_or_no))?;
+    table.add("any signed", any_signed.iter().map(yes_or_no))?;
+    table.add("grams", grams.iter().copied())?;
+    table.add("parcels", parcels.iter().copied())?;
+    table.add("least floor", least_floor.iter().copied())?;
+    table.add("greatest floor", greatest_floor.iter().copied())?;
+    table.add("least altitude", least_altitude.iter().copied())?;
+    table.add("greatest altitude", greatest_altitude.iter().copied())?;
+    table.add("latest second", seconds)?;
+    table.add("at depot", depots)?;
+    table.print(rt)
 }
 
-/// The null cells among the rows of the batches that were counted.
-fn nulls_in<T>(turns: &[Turn], cells: &[Option<T>]) -> usize {
-    let mut n: usize = 0;
-    for turn in turns {
-        if turn.refusal.is_none() {
-            for cell in cells.get(turn.from..turn.to).unwrap_or(&[]) {
-                if cell.is_none() {
-                    n = n.saturating_add(1);
-                }
-            }
-        }
-    }
-    n
-}
-
-/// The ticks among them that say no.
-fn noes_in(turns: &[Turn], ticks: &[Option<bool>]) -> usize {
-    let mut n: usize = 0;
-    for turn in turns {
-        if turn.refusal.is_none() {
-            for tick in ticks.get(turn.from..turn.to).unwrap_or(&[]) {
-                if *tick == Some(false) {
-                    n = n.saturating_add(1);
-                }
-            }
-        }
-    }
-    n
-}
-
-fn refused_in(turns: &[Turn]) -> usize {
-    let mut n: usize = 0;
-    for turn in turns {
-        if turn.refusal.is_some() {
-            n = n.saturating_add(1);
-        }
-    }
-    n
-}
-
-fn print_nulls(rt: &HostRuntime, day: &Day, turns: &[Turn]) -> Result<(), Fault> {
-    let signed = nulls_in(turns, day.signed.as_slice());
-    let grams = nulls_in(turns, day.grams.as_slice());
-    let parcels = nulls_in(turns, day.parcels.as_slice());
-    let floor = nulls_in(turns, day.floor.as_slice());
-    let altitude = nulls_in(turns, day.altitude.as_slice());
-    let moment = nulls_in(turns, day.moment.as_slice());
-    let all = signed
-        .saturating_add(grams)
-        .saturating_add(parcels)
-        .saturating_add(floor)
-        .saturating_add(altitude)
-        .saturating_add(moment);
+fn print_nulls(rt: &HostRuntime, batches: Batches<'_>) -> Result<(), Fault> {
+    let signed = batches.count(|row| row.signed.is_none());
+    let grams = batches.count(|row| row.grams.is_none());
+    let parcels = batches.count(|row| row.parcels.is_none());
+    let floor = batches.count(|row| row.floor.is_none());
+    let altitude = batches.count(|row| row.altitude.is_none());
+    let moment = batches.count(|row| row.moment.is_none());
+    let all = [signed, grams, parcels, floor, altitude, moment]
+        .into_iter()
+        .fold(0, usize::saturating_add);
     println!(rt;
         "nulls      {all}: signed {signed}, grams {grams}, parcels {parcels}, floor {floor}, altitude {altitude}, second or depot {moment}"
     )?;
     Ok(())
 }
 
-fn print_filtered(rt: &HostRuntime, day: &Day, turns: &[Turn]) -> Result<(), Fault> {
-    let no = noes_in(turns, day.delivered.as_slice());
-    let null = nulls_in(turns, day.delivered.as_slice());
+fn print_filtered(rt: &HostRuntime, batches: Batches<'_>) -> Result<(), Fault> {
+    let no = batches.count(|row| row.delivered == Some(false));
+    let null = batches.count(|row| row.delivered.is_none());
     let all = no.saturating_add(null);
     println!(rt; "filtered   {all}: delivered no {no}, delivered null {null}")?;
     Ok(())
 }
 
-fn print_refused(rt: &HostRuntime, day: &Day, turns: &[Turn]) -> Result<(), Fault> {
-    for (k, turn) in turns.iter().enumerate() {
+fn print_refused(rt: &HostRuntime, batches: Batches<'_>) -> Result<(), Fault> {
+    for (k, turn) in batches.turns.iter().enumerate() {
         if let Some(refusal) = turn.refusal {
             let batch = k.saturating_add(1);
-            let first = day.lines.get(turn.from).copied().unwrap_or(0);
-            let last = day
-                .lines
-                .get(turn.to.saturating_sub(1))
-                .copied()
-                .unwrap_or(0);
+            let rows = turn.of(batches.rows);
+            let first = rows.first().map_or(0, |row| row.line);
+            let last = rows.last().map_or(0, |row| row.line);
             let number = refusal.number();
             println!(rt;
                 "           batch {batch}, lines {first} to {last}: refusal {number}, {refusal:?}"
@@ -159,32 +80,35 @@ fn print_refused(rt: &HostRuntime, day: &Day, turns: &[Turn]) -> Result<(), Faul
 }
 
 fn print_bad_lines(rt: &HostRuntime, day: &Day) -> Result<(), Fault> {
-    for bad in day.bad_lines.iter() {
-        let line = bad.line;
-        let flaw = bad.flaw;
+    let bad = day.bad_lines.len();
+    println!(rt; "bad lines  {bad}")?;
+    for BadLine { line, flaw } in day.bad_lines.iter() {
         println!(rt; "           line {line}: {flaw}")?;
     }
     Ok(())
 }
 
 /// What was counted. Of a refused batch nothing is.
-fn print_counts(rt: &HostRuntime, day: &Day, turns: &[Turn], groups: usize) -> Result<(), Fault> {
-    let read = day.lines.len();
-    let counted = rows_in(turns);
+fn print_counts(rt: &HostRuntime, batches: Batches<'_>, groups: usize) -> Result<(), Fault> {
+    let read = batches.rows.len();
+    let counted = batches.count(|_| true);
     println!(rt; "rows       {counted} counted, of {read} read")?;
-    print_nulls(rt, day, turns)?;
-    print_filtered(rt, day, turns)?;
+    print_nulls(rt, batches)?;
+    print_filtered(rt, batches)?;
     println!(rt; "groups     {groups}")?;
     Ok(())
 }
 
 fn print_division(rt: &HostRuntime, division: Division) -> Result<(), Fault> {
-    let first = division.first;
-    let second = division.second;
-    let states = division.states;
-    let groups = division.groups;
+    let Division {
+        first,
+        second,
+        states,
+        groups,
+        differs,
+    } = division;
     print!(rt; "divided    two parts of {first} and {second} rows, {states} state rows merged: ")?;
-    match division.differs {
+    match differs {
         Some(group) => println!(rt; "the figures differ, first in group {group}")?,
         None => println!(rt; "the same figures in {groups} groups")?,
     }
@@ -204,14 +128,15 @@ fn print_divided(rt: &HostRuntime, divided: Result<Division, Fault>) -> Result<(
     }
 }
 
-fn print_batches(rt: &HostRuntime, day: &Day, turns: &[Turn]) -> Result<(), Fault> {
-    let batches = turns.len();
-    let refused = refused_in(turns);
-    let bad = day.bad_lines.len();
-    println!(rt; "batches    {batches}, of which refused {refused}")?;
-    print_refused(rt, day, turns)?;
-    println!(rt; "bad lines  {bad}")?;
-    print_bad_lines(rt, day)
+fn print_batches(rt: &HostRuntime, batches: Batches<'_>) -> Result<(), Fault> {
+    let turns = batches.turns.len();
+    let refused = batches
+        .turns
+        .iter()
+        .filter(|turn| !turn.is_counted())
+        .count();
+    println!(rt; "batches    {turns}, of which refused {refused}")?;
+    print_refused(rt, batches)
 }
 
 pub fn print_report(
@@ -221,10 +146,14 @@ pub fn print_report(
     figures: &Figures,
     divided: Result<Division, Fault>,
 ) -> Result<(), Fault> {
-    let turns = plan.turns.as_slice();
+    let batches = Batches {
+        rows: day.rows.as_slice(),
+        turns: plan.turns.as_slice(),
+    };
     print_groups(rt, figures)?;
     println!(rt; "")?;
-    print_counts(rt, day, turns, figures.grams.len())?;
+    print_counts(rt, batches, figures.grams.len())?;
     print_divided(rt, divided)?;
-    print_batches(rt, day, turns)
+    print_batches(rt, batches)?;
+    print_bad_lines(rt, day)
 }

@@ -1,17 +1,18 @@
 //! A line of the file as a row: nine fields, each of them checked.
 use operations::operation::Stamp;
-use std::fmt;
 use std::num::{IntErrorKind, ParseIntError};
 use std::str::FromStr;
+use thiserror::Error;
 
 /// The first line of every file.
 pub const HEADER: &str = "group,delivered,signed,grams,parcels,floor,altitude,second,depot";
 
-const FIELDS: usize = 9;
-
 /// What a line says; an empty field is a null.
 #[derive(Clone, Copy)]
 pub struct Row {
+    /// The line's number in the file.
+    pub line: usize,
+    /// The group's opening number.
     pub group: usize,
     pub delivered: Option<bool>,
     pub signed: Option<bool>,
@@ -23,25 +24,20 @@ pub struct Row {
 }
 
 /// Why a line is no row.
-#[derive(Clone, Copy)]
+#[derive(Clone, Copy, Debug, Error)]
 pub enum Flaw {
+    #[error("the number of fields is {0} and not 9")]
     FieldCount(usize),
+    #[error("group is empty")]
     NoGroup,
+    #[error("{0} is neither yes nor no nor empty")]
     NoTick(&'static str),
-    NoNumber(&'static str, IntErrorKind),
-}
-
-impl fmt::Display for Flaw {
-    fn fmt<W: fmt::Write>(&self, f: &mut fmt::Formatter<W>) -> fmt::Result {
-        match *self {
-            Flaw::FieldCount(n) => write!(f, "the number of fields is {n} and not {FIELDS}"),
-            Flaw::NoGroup => write!(f, "group is empty"),
-            Flaw::NoTick(name) => write!(f, "{name} is neither yes nor no nor empty"),
-            Flaw::NoNumber(name, IntErrorKind::PosOverflow) => write!(f, "{name} is too large"),
-            Flaw::NoNumber(name, IntErrorKind::NegOverflow) => write!(f, "{name} is too small"),
-            Flaw::NoNumber(name, _) => write!(f, "{name} is not a whole number"),
-        }
-    }
+    #[error("{0} is too large")]
+    TooLarge(&'static str),
+    #[error("{0} is too small")]
+    TooSmall(&'static str),
+    #[error("{0} is not a whole number")]
+    NoNumber(&'static str),
 }
 
 fn number<F: FromStr<Err = ParseIntError> + Drop>(
@@ -51,10 +47,11 @@ fn number<F: FromStr<Err = ParseIntError> + Drop>(
     if text.is_empty() {
         return Ok(None);
     }
-    match text.parse::<F>() {
-        Ok(x) => Ok(Some(x)),
-        Err(e) => Err(Flaw::NoNumber(name, *e.kind())),
-    }
+    text.parse::<F>().map(Some).map_err(|e| match e.kind() {
+        IntErrorKind::PosOverflow => Flaw::TooLarge(name),
+        IntErrorKind::NegOverflow => Flaw::TooSmall(name),
+        _ => Flaw::NoNumber(name),
+    })
 }
 
 fn tick(name: &'static str, text: &str) -> Result<Option<bool>, Flaw> {
@@ -66,48 +63,44 @@ fn tick(name: &'static str, text: &str) -> Result<Option<bool>, Flaw> {
     }
 }
 
-fn moment(second: Option<u64>, depot: Option<u32>) -> Option<Stamp> {
-    match (second, depot) {
-        (Some(second), Some(depot)) => Some(Stamp { second, depot }),
-        _ => None,
+impl Row {
+    /// Reads the fields of a line.
+    pub fn read(line: usize, fields: &[&str]) -> Result<Row, Flaw> {
+        let &[
+            group,
+            delivered,
+            signed,
+            grams,
+            parcels,
+            floor,
+            altitude,
+            second,
+            depot,
+        ] = fields
+        else {
+            return Err(Flaw::FieldCount(fields.len()));
+        };
+        let group = number("group", group)?;
+        let delivered = tick("delivered", delivered)?;
+        let signed = tick("signed", signed)?;
+        let grams = number("grams", grams)?;
+        let parcels = number("parcels", parcels)?;
+        let floor = number("floor", floor)?;
+        let altitude = number("altitude", altitude)?;
+        let second = number("second", second)?;
+        let depot = number("depot", depot)?;
+        Ok(Row {
+            line,
+            group: group.ok_or(Flaw::NoGroup)?,
+            delivered,
+            signed,
+            grams,
+            parcels,
+            floor,
+            altitude,
+            moment: second
+                .zip(depot)
+                .map(|(second, depot)| Stamp { second, depot }),
+        })
     }
-}
-
-fn field_count(line: &str) -> usize {
-    let mut n: usize = 0;
-    for _ in line.split(',') {
-        n = n.saturating_add(1);
-    }
-    n
-}
-
-/// Reads a line; spaces around a field do not count.
-pub fn parse_row(line: &str) -> Result<Row, Flaw> {
-    let count = field_count(line);
-    if count != FIELDS {
-        return Err(Flaw::FieldCount(count));
-    }
-    let mut fields = line.split(',');
-    let group = number::<usize>("group", fields.next().unwrap_or("").trim())?;
-    let delivered = tick("delivered", fields.next().unwrap_or("").trim())?;
-    let signed = tick("signed", fields.next().unwrap_or("").trim())?;
-    let grams = number::<i64>("grams", fields.next().unwrap_or("").trim())?;
-    let parcels = number::<u64>("parcels", fields.next().unwrap_or("").trim())?;
-    let floor = number::<i32>("floor", fields.next().unwrap_or("").trim())?;
-    let altitude = number::<i64>("altitude", fields.next().unwrap_or("").trim())?;
-    let second = number::<u64>("second", fields.next().unwrap_or("").trim())?;
-    let depot = number::<u32>("depot", fields.next().unwrap_or("").trim())?;
-    let Some(group) = group else {
-        return Err(Flaw::NoGroup);
-    };
-    Ok(Row {
-        group,
-        delivered,
-        signed,
-        grams,
-        parcels,
-        floor,
-        altitude,
-        moment: moment(second, depot),
-    })
 }

@@ -1,80 +1,79 @@
 //! A table of text whose columns line up.
+ghost use Rattle.std.specs.Iterator.{IsFinite};
+
 use crate::fault::Fault;
 use std::alloc::{AllocError, Global};
 use std::fmt;
 
 /// A head, and below it a cell for each line, all of them to the right.
 #[derive(Drop)]
-pub struct Column {
+struct Column {
     head: &'static str,
     cells: Vec<String>,
     width: usize,
 }
 
 impl Column {
-    pub fn new(heap: Global, head: &'static str) -> Column {
-        Column {
-            head,
-            cells: Vec::new(heap),
-            width: head.len(),
-        }
-    }
-
-    /// Adds a cell: a null is a dash.
-    pub fn push<T: fmt::Display>(&mut self, heap: Global, figure: &Option<T>) -> Result<(), Fault> {
-        let cell = match figure {
-            Some(figure) => figure.to_string(heap)?,
-            None => String::from_str(heap, "-")?,
-        };
-        self.width = self.width.max(cell.len());
-        self.cells.push(cell)?;
-        Ok(())
-    }
-
-    pub fn of<T: fmt::Display>(
-        heap: Global,
-        head: &'static str,
-        figures: &[Option<T>],
-    ) -> Result<Column, Fault> {
-        let mut column = Column::new(heap, head);
-        for figure in figures {
-            column.push(heap, figure)?;
-        }
-        Ok(column)
-    }
-
     fn text(&self, line: usize) -> &str {
-        match self.cells.get(line) {
-            Some(cell) => cell.as_str(),
-            None => "",
-        }
+        self.cells.get(line).map_or("", |cell| cell.as_str())
     }
+}
+
+#[derive(Drop)]
+pub struct Table {
+    heap: Global,
+    columns: Vec<Column>,
 }
 
 fn push_cell(line: &mut String, text: &str, width: usize) -> Result<(), AllocError> {
-    if !line.is_empty() {
-        line.push_str("  ")?;
-    }
-    for _ in text.len()..width {
-        line.push(' ')?;
-    }
-    line.push_str(text)
+    let gap = if line.is_empty() { "" } else { "  " };
+    write!(line, "{gap}{text:>width$}")
 }
 
-/// Prints the heads and so many lines below them.
-pub fn print_table(rt: &HostRuntime, columns: &[Column], lines: usize) -> Result<(), Fault> {
-    let heap = rt.alloc();
-    let mut heads = String::new(heap);
-    for column in columns {
-        push_cell(&mut heads, column.head, column.width)?;
+impl Table {
+    pub fn new(heap: Global) -> Table {
+        let columns = Vec::new(heap);
+        Table { heap, columns }
     }
-    println!(rt; "{heads}")?;
-    for k in 0..lines {
-        let mut line = String::new(heap);
-        for column in columns {
-            push_cell(&mut line, column.text(k), column.width)?;
+
+    /// Adds a column with a cell for each figure: a null is a dash.
+    pub fn add<T: fmt::Display + Drop, I: Iterator<Item = Option<T>> + Drop>(
+        &mut self,
+        head: &'static str,
+        figures: I,
+    ) -> Result<(), AllocError>
+        requires can { I.can_next figures }
+        requires ends { IsFinite (I.remaining figures) }
+    {
+        let mut cells = Vec::new(self.heap);
+        let mut width = head.len();
+        for figure in figures {
+            let cell = match figure {
+                Some(figure) => figure.to_string(self.heap)?,
+                None => String::from_str(self.heap, "-")?,
+            };
+            width = width.max(cell.len());
+            cells.push(cell)?;
         }
-        println!(rt; "{line}")?;
+        self.columns.push(Column { head, cells, width })?;
+        Ok(())
     }
-    Ok(())
+
+    /// Prints the heads, and below them the lines, so many as the first column has.
+    pub fn print(&self, rt: &HostRuntime) -> Result<(), Fault> {
+        let mut heads = String::new(self.heap);
+        for column in self.columns.iter() {
+            push_cell(&mut heads, column.head, column.width)?;
+        }
+        println!(rt; "{heads}")?;
+        let lines = self.columns.first().map_or(0, |column| column.cells.len());
+        for k in 0..lines {
+            let mut line = String::new(self.heap);
+            for column in self.columns.iter() {
+                push_cell(&mut line, column.text(k), column.width)?;
+            }
+            println!(rt; "{line}")?;
+        }
+        Ok(())
+    }
 }

@@ -46,12 +46,7 @@ fn sum_of_first(
     groups: usize,
 ) -> Result<Result<Option<i64>, Refusal>, AllocError> {
     let ones = vec![in heap; 1i64; rows]?;
-    let mut indices: Vec<usize> = Vec::new(heap);
-    for j in 0..rows {
-        if groups > 0 {
-            indices.push(j % groups)?;
-        }
-    }
+    let indices = (0..groups).cycle().take(rows).collect::<Vec<usize>>(heap)?;
     let mut values = vec![in heap; 0i64; 70_000]?;
     let mut marks = vec![in heap; false; 70_000]?;
     let mut shown = vec![in heap; 0i64; 70_000]?;
@@ -65,10 +60,8 @@ fn sum_of_first(
     );
     let column = PrimitiveColumn::plain(ones.as_slice());
     let mut out = PrimitiveBuffers::new(shown.as_mut_slice(), bits.as_mut_slice());
-    if let Err(refusal) = add_up(&mut sums, &column, indices.as_slice(), groups, &mut out) {
-        return Ok(Err(refusal));
-    }
-    Ok(Ok(first_of(&out)))
+    let added = add_up(&mut sums, &column, indices.as_slice(), groups, &mut out);
+    Ok(added.map(|()| first_of(&out)))
 }
 
 fn report(rt: &HostRuntime, rows: usize, groups: usize) -> io::Result<()> {
