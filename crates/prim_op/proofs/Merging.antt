@@ -1,7 +1,8 @@
 -- A merge is an update with no filter.
 use Rattle.std.proofs.Common.{◌≡◌, ℕ, ltb, List, [], ◌∷◌, map, length, None, Option, sym, refl, ap}
 use Rattle.columnar.specs.Cells.{Cell, seen, all_pass, nulls}
-use Rattle.groups.specs.Lists.{change, deal, zip}
+use Rattle.std.specs.List.{zip}
+use Rattle.groups.specs.Lists.{change, deal}
 use Rattle.groups.specs.Kind.{read, by_nulls}
 use Rattle.groups.specs.Tally.{Meaning, admitted, refusal, batch_conditions, with_credits, opened, turned, merged, merge_refusal, updated, update_refusal}
 use Rattle.operations.specs.Primitive.{primitive, join_by}

@@ -4,14 +4,14 @@
 --     Sound start s     the kept groups and the limit lie within the memory, and unmarked groups have the start value
 use Rattle.std.specs.Prelude.{◌≤◌, Bool, not, List, length, take, Option}
 use Rattle.groups.specs.Tally.{Meaning}
-use Rattle.groups.specs.Seen.{is_plain, in_force}
+use Rattle.groups.specs.Seen.{is_plain, kept_marks}
 use Rattle.prim_op.specs.declared.op_groups.OpGroupsAccumulator.{OpGroupsAccumulator}
 use Rattle.prim_op.specs.Kept.{credits_of, Unset}
 
 module _ {E O L : Type 0} where
   -- the marks in force, and the values, of the kept groups
   abbrev pub marks_of : OpGroupsAccumulator E O L → List Bool
-  marks_of s = in_force (is_plain s.null_state.seen_values) s.null_state.kept s.marks.now
+  marks_of s = kept_marks s.null_state
 
   abbrev pub values_of : OpGroupsAccumulator E O L → List E
   values_of s = take s.null_state.kept s.values.now
@@ -21,13 +21,13 @@ module _ {E O L : Type 0} where
       record {
         credits = credits_of (marks_of s) (values_of s);
         marked = not (is_plain s.null_state.seen_values);
-        most_rows = s.most_rows;
-        most_groups = s.most_groups;
+        most_rows = s.limits.rows;
+        most_groups = s.limits.groups;
         most_pairs = 0;
       }
 
   pub record Sound (start : E) (s : OpGroupsAccumulator E O L) : Type 0 where
-    pub kept_limit : s.null_state.kept ≤ s.most_groups
-    pub limit_values : s.most_groups ≤ length s.values.now
-    pub limit_marks : s.most_groups ≤ length s.marks.now
+    pub kept_limit : s.null_state.kept ≤ s.limits.groups
+    pub limit_values : s.limits.groups ≤ length s.values.now
+    pub limit_marks : s.limits.groups ≤ length s.null_state.marks.now
     pub unset : Unset start (marks_of s) (values_of s)

@@ -18,10 +18,10 @@ use columnar::filter::Filter;
 use columnar::packing::Packing;
 use columnar::refusal::Refusal;
 use columnar::rows::{FlatRows, Rows};
-use groups::checks::refuse;
+use groups::checks::Batch;
 use groups::emit::EmitTo;
 use groups::groups_accumulator::{Commuting, GroupsAccumulator};
-use groups::limits::MOST;
+use groups::limits::{BatchLimits, MOST};
 use groups::moves::{fill_part, move_down};
 use groups::null_state::NullState;
 use operations::operation::Operation;
@@ -33,10 +33,8 @@ use walk::accumulate::{Visitor, accumulate};
 #[derive(Drop)]
 pub struct OpGroupsAccumulator<'m, T, O, L> {
     pub(crate) values: &'m mut [T],
-    pub(crate) marks: &'m mut [bool],
-    pub(crate) null_state: NullState,
-    pub(crate) most_rows: usize,
-    pub(crate) most_groups: usize,
+    pub(crate) null_state: NullState<'m>,
+    pub(crate) limits: BatchLimits,
     pub(crate) op: O,
     pub(crate) packing: PhantomData<L>,
 }
@@ -54,13 +52,14 @@ impl<'m, T: Copy, O: Operation<T>, L> OpGroupsAccumulator<'m, T, O, L> {
         ensures sound { Sound O.Operation.start result }
         ensures fresh { meaning_of result ≡ fresh (primitive O.Operation.start O.Operation.rule) (record { rows = min max_rows cap; groups = min (min max_groups cap) (min (length values.old) (length marks.old)); pairs = 0 }) }
     {
-        let most_groups = max_groups.min(MOST).min(values.len().min(marks.len()));
+        let limits = BatchLimits {
+            rows: max_rows.min(MOST),
+            groups: max_groups.min(MOST).min(values.len().min(marks.len())),
+        };
         OpGroupsAccumulator {
             values,
-            marks,
-            null_state: NullState::new(),
-            most_rows: max_rows.min(MOST),
-            most_groups,
+            null_state: NullState::new(marks),
+            limits,
             op,
             packing: PhantomData,
         }
@@ -71,9 +70,9 @@ impl<'m, T: Copy, O: Operation<T>, L> OpGroupsAccumulator<'m, T, O, L> {
 impl<'m, T: Copy, O: Operation<T>, L> Visitor<T> for OpGroupsAccumulator<'m, T, O, L> {
     ghost Model = { List T × (List Bool × Bool) };
 
-    ghost model = { λ s. (s.values.now, (s.marks.now, is_plain s.null_state.seen_values)) };
+    ghost model = { λ s. (s.values.now, (s.null_state.marks.now, is_plain s.null_state.seen_values)) };
 
-    ghost fixed = { λ s. (min (length s.values.now) (length s.marks.now), length s.values.now ∷ (length s.marks.now ∷ (s.null_state.kept ∷ (s.most_rows ∷ (s.most_groups ∷ []))))) };
+    ghost fixed = { λ s. (min (length s.values.now) (length s.null_state.marks.now), length s.values.now ∷ (length s.null_state.marks.now ∷ (s.null_state.kept ∷ (s.limits.rows ∷ (s.limits.groups ∷ []))))) };
 
     ghost after = { λ m k x. (slice_set m.0 k (O.Operation.rule (slice_index_or m.0 k O.Operation.start) x), ((if m.1.1 then m.1.0 else slice_set m.1.0 k true), m.1.1)) };
 
@@ -82,9 +81,7 @@ impl<'m, T: Copy, O: Operation<T>, L> Visitor<T> for OpGroupsAccumulator<'m, T, 
     fn visit(&mut self, group: usize, value: T) {
         let old = self.values[group];
         self.values[group] = O::combine(old, value);
-        if self.null_state.is_marked() {
-            self.marks[group] = true;
-        }
+        self.null_state.mark(group);
     }
 }
 
@@ -93,22 +90,19 @@ impl<'m, T: Copy, O: Operation<T>, L: Writable<Item = T>> OpGroupsAccumulator<'m
     fn open(&mut self, total: usize, turns: bool)
         requires order { self.old.null_state.kept ≤ total }
         requires values { total ≤ length self.old.values.now }
-        requires marks { total ≤ length self.old.marks.now }
+        requires marks { total ≤ length self.old.null_state.marks.now }
         ensures kept { self.new.null_state.kept ≡ total }
         ensures switch { is_plain self.new.null_state.seen_values ≡ (is_plain self.old.null_state.seen_values && not turns) }
         ensures values { take total self.new.values.now ≡ values_of self.old ++ replicate (total - self.old.null_state.kept) O.Operation.start }
-        ensures marks { is_plain self.new.null_state.seen_values ≡ false → take total self.new.marks.now ≡ marks_of self.old ++ replicate (total - self.old.null_state.kept) false }
-        ensures rows { self.new.most_rows ≡ self.old.most_rows }
-        ensures groups { self.new.most_groups ≡ self.old.most_groups }
+        ensures marks { is_plain self.new.null_state.seen_values ≡ false → take total self.new.null_state.marks.now ≡ marks_of self.old ++ replicate (total - self.old.null_state.kept) false }
+        ensures limits { self.new.limits ≡ self.old.limits }
         ensures values_len { length self.new.values.now ≡ length self.old.values.now }
-        ensures marks_len { length self.new.marks.now ≡ length self.old.marks.now }
+        ensures marks_len { length self.new.null_state.marks.now ≡ length self.old.null_state.marks.now }
     {
         let kept = self.null_state.kept;
         let start = O::starting_value();
         fill_part(self.values, kept, total, start);
-        let mut null_state = self.null_state;
-        null_state.open(self.marks, total, turns);
-        self.null_state = null_state;
+        self.null_state.open(total, turns);
     }
 
     /// Joins each row's credit to its group's, after opening groups up to the total; or a refusal, and nothing changed.
@@ -125,18 +119,14 @@ impl<'m, T: Copy, O: Operation<T>, L: Writable<Item = T>> OpGroupsAccumulator<'m
         ensures after { meaning_of self.new ≡ unless (result_err result) (meaning_of self.old) (updated (primitive O.Operation.start O.Operation.rule) (meaning_of self.old) (cells_under values.now.validity (L.Packing.items values.now.values.slots.now values.now.values.start values.now.values.len)) (ticks opt_filter.now) group_indices.now total) }
     {
         let kept = self.null_state.kept;
-        let most_rows = self.most_rows;
-        let most_groups = self.most_groups;
-        refuse(
-            most_rows,
-            most_groups,
-            kept,
-            values.len(),
+        let limits = self.limits;
+        let batch = Batch {
+            rows: values.len(),
             group_indices,
-            opt_filter.ticked(),
+            ticked: opt_filter.ticked(),
             total,
-            self.marks,
-        )?;
+        };
+        batch.refuse(limits, kept, self.null_state.marks)?;
         let turns = opt_filter.given() | (values.null_count() > 0);
         self.open(total, turns);
         accumulate(group_indices, values, opt_filter, self);
@@ -162,7 +152,7 @@ impl<'m, T: Copy, O: Operation<T>, L: Writable<Item = T>> OpGroupsAccumulator<'m
         if !out.fits(rows, masked) {
             return Err(Refusal::ShortBuffer);
         }
-        out.put(self.values, self.marks, rows, masked);
+        out.put(self.values, self.null_state.marks, rows, masked);
         Ok(())
     }
 
@@ -176,9 +166,7 @@ impl<'m, T: Copy, O: Operation<T>, L: Writable<Item = T>> OpGroupsAccumulator<'m
         let kept = self.null_state.kept;
         let rows = emit_to.count(kept);
         move_down(self.values, rows, kept);
-        let mut null_state = self.null_state;
-        null_state.remove(self.marks, emit_to);
-        self.null_state = null_state;
+        self.null_state.remove(emit_to);
     }
 
     /// Shows the groups asked for and removes them; or a refusal, and nothing changed.
@@ -241,7 +229,7 @@ impl<'m, T: Copy, O: Operation<T>, L: Writable<Item = T>> OpGroupsAccumulator<'m
         ensures written { B.Buffers.memory out.new ≡ unless (result_err result) (B.Buffers.memory out.old) (stored B.Buffers.masks B.Buffers.figures (converted (primitive O.Operation.start O.Operation.rule) (C.Rows.cells values.now) (ticks opt_filter.now)) (B.Buffers.memory out.old)) }
     {
         let rows = values.len();
-        if rows > self.most_rows {
+        if rows > self.limits.rows {
             return Err(Refusal::TooManyRows);
         }
         if opt_filter.ticked().unwrap_or(rows) != rows {
@@ -338,7 +326,5 @@ impl<'a, 'm, T: Copy + 'a, O: Operation<T>, L: Writable<Item = T>> Commuting<'a>
 where
     L::Slot: 'a,
 {
-    fn commutes(&self) -> u8 {
-        0
-    }
+    fn commutes() {}
 }

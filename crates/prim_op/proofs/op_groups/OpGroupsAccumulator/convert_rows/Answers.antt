@@ -27,7 +27,7 @@ returns-then-not-fits g c =
     record {
       answer =
           ap (λ s. cond s (Some ShortBuffer) None) (sym small ∙ ap (short b.layout room) (converted_is o.start o.rule rows f))
-          ∙ convert_line c.args.self.now.most_rows (length rows) f (short b.layout room (converted (primitive o.start o.rule) rows f)) c.len-rows.result c.len-rows.ensures c.if-rows-self.false (ap (λ q. unwrap_or q c.len-rows.result) (sym c.ticked.ensures) ∙ sym c.unwrap_or.ensures ∙ c.if-unwrap_or-rows.false);
+          ∙ convert_line c.args.self.now.limits.rows (length rows) f (short b.layout room (converted (primitive o.start o.rule) rows f)) c.len-rows.result c.len-rows.ensures c.if-rows-self.false (ap (λ q. unwrap_or q c.len-rows.result) (sym c.ticked.ensures) ∙ sym c.unwrap_or.ensures ∙ c.if-unwrap_or-rows.false);
       written = refl;
     }
 
@@ -44,7 +44,7 @@ returns g c =
     record {
       answer =
           ap (λ s. cond s (Some ShortBuffer) None) (sym small ∙ ap (short b.layout room) (converted_is o.start o.rule rows f))
-          ∙ convert_line c.args.self.now.most_rows (length rows) f (short b.layout room (converted (primitive o.start o.rule) rows f)) c.len-rows.result c.len-rows.ensures c.if-rows-self.false (ap (λ q. unwrap_or q c.len-rows.result) (sym c.ticked.ensures) ∙ sym c.unwrap_or.ensures ∙ c.if-unwrap_or-rows.false);
+          ∙ convert_line c.args.self.now.limits.rows (length rows) f (short b.layout room (converted (primitive o.start o.rule) rows f)) c.len-rows.result c.len-rows.ensures c.if-rows-self.false (ap (λ q. unwrap_or q c.len-rows.result) (sym c.ticked.ensures) ∙ sym c.unwrap_or.ensures ∙ c.if-unwrap_or-rows.false);
       written =
           c.put_rows.ensures
           ∙ ap (λ x. stored b.masks b.figures (kept_rows x (passes f (length rows)) rows) m) c.starting_value.ensures

@@ -11,7 +11,7 @@ pub returns-then-count-kept : goal.returns-then-count-kept
 returns-then-count-kept g c =
     let s = c.args.self.now in
     let kept = s.null_state.kept in
-    let many = kept_credits (is_plain s.null_state.seen_values) kept s.marks.now s.values.now (omega arith) (omega arith) in
+    let many = kept_credits (is_plain s.null_state.seen_values) kept s.null_state.marks.now s.values.now (omega arith) (omega arith) in
     record {
       stays = c.requires;
       answer = sym (cond-true _ _ _ (many_is c.args.emit_to (credits_of (marks_of s) (values_of s)) kept c.count.result true many c.count.ensures (lt-ltb kept c.count.result c.if-count-kept.true)));
@@ -22,7 +22,7 @@ pub returns : goal.returns
 returns g c =
     let s = c.args.self.now in
     let kept = s.null_state.kept in
-    let many = kept_credits (is_plain s.null_state.seen_values) kept s.marks.now s.values.now (omega arith) (omega arith) in
+    let many = kept_credits (is_plain s.null_state.seen_values) kept s.null_state.marks.now s.values.now (omega arith) (omega arith) in
     record {
       stays = c.remove.ensures.stays;
       answer = sym (cond-false _ _ _ (many_is c.args.emit_to (credits_of (marks_of s) (values_of s)) kept c.count.result false many c.count.ensures (le-ltb kept c.count.result c.if-count-kept.false)));

@@ -15,8 +15,7 @@ returns g c =
           ∙ take_refilled s.values.now s.null_state.kept total c.starting_value-start.result c.requires.order c.requires.values
           ∙ ap (λ x. values_of s ++ replicate (total - s.null_state.kept) x) c.starting_value-start.ensures;
       marks = c.open.ensures.marks;
-      rows = refl;
-      groups = refl;
+      limits = refl;
       values_len = omega arith;
       marks_len = omega arith;
     }

@@ -21,9 +21,9 @@ returns g c =
     let plain = is_plain s.null_state.seen_values in
     let t = c.remove.new.self in
     let vs = take t.kept c.move_down.new.slots in
-    let in-marks : kept ≤ length s.marks.now = omega arith in
+    let in-marks : kept ≤ length s.null_state.marks.now = omega arith in
     let in-values : kept ≤ length s.values.now = omega arith in
-    let lm = forced_length plain kept s.marks.now in-marks in
+    let lm = forced_length plain kept s.null_state.marks.now in-marks in
     let lv = length-take-le kept s.values.now in-values in
     let moved : vs ≡ drop n (values_of s) =
     ap (take t.kept) (c.move_down.ensures ∙ ap (λ k. moved_down s.values.now k kept) c.count-rows.ensures)
