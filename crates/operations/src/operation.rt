@@ -109,7 +109,7 @@ impl<T: Bounded> Operation<T> for Max {
 }
 
 /// A moment at a depot: the later second is the later moment, and within a second the higher depot.
-#[derive(Clone, Copy, PartialEq, Eq, PartialOrd, Ord, Debug)]
+#[derive(Clone, Copy, PartialEq, Eq, PartialOrd, Ord, Default, Debug)]
 pub struct Stamp {
     pub second: u64,
     pub depot: u32,

@@ -2,13 +2,13 @@
 use crate::day::Day;
 use crate::fault::Fault;
 use crate::feed::{Memory, close, feed};
-use crate::pack::{Series, Ticks, pack_series};
+use crate::pack::{Series, Ticks};
 use crate::part::Part;
 use crate::plan::{Batches, Plan};
 use crate::row::Row;
 use buffers::buffers::PrimitiveBuffers;
 use columnar::column::PrimitiveColumn;
-use columnar::mask::Mask;
+use columnar::packing::Plain;
 use columnar::refusal::Refusal;
 use groups::emit::EmitTo;
 use groups::groups_accumulator::GroupsAccumulator;
@@ -31,25 +31,47 @@ pub struct Division {
 /// State rows as they were written, and the group that each is merged into.
 #[derive(Drop)]
 struct States {
-    values: Vec<i64>,
-    bits: Vec<u8>,
+    memory: Memory<Plain<i64>>,
     len: usize,
     masked: bool,
     indices: Vec<usize>,
 }
 
+/// A part as an accumulator is handed it.
+#[derive(Drop)]
+struct Share<'x> {
+    series: Series<Plain<i64>>,
+    ticks: &'x Ticks,
+    part: &'x Part,
+}
+
+impl<'x> Share<'x> {
+    fn new(heap: Global, rows: &[Row], plan: &'x Plan, part: &'x Part) -> Result<Share<'x>, Fault> {
+        Ok(Share {
+            series: Series::pack(heap, rows, |row| row.grams, 0i64)?,
+            ticks: &plan.ticks,
+            part,
+        })
+    }
+}
+
 /// Hands a part over.
 fn feed_part<'a, T: GroupsAccumulator<'a, Values = PrimitiveColumn<'a, i64>>>(
     acc: &mut T,
-    series: &'a Series<i64>,
-    ticks: &Ticks,
-    part: &Part,
+    share: &'a Share<'_>,
 ) -> Result<(), Refusal>
     requires { T.GroupsAccumulator.sound acc.old }
     ensures { T.GroupsAccumulator.sound acc.new }
 {
+    let part = share.part;
     for turn in part.turns.iter() {
-        feed(acc, series, ticks, part.indices.as_slice(), *turn)?;
+        feed(
+            acc,
+            &share.series,
+            share.ticks,
+            part.indices.as_slice(),
+            *turn,
+        )?;
     }
     Ok(())
 }
@@ -62,30 +84,17 @@ fn peek_part<
         Values = PrimitiveColumn<'a, i64>,
         StateBuffers = PrimitiveBuffers<'a, i64>,
     >,
->(
-    acc: &mut T,
-    series: &'a Series<i64>,
-    ticks: &Ticks,
-    part: &Part,
-    out: &mut PrimitiveBuffers<'a, i64>,
-) -> Result<(), Refusal>
+>(acc: &mut T, share: &'a Share<'_>, out: &mut PrimitiveBuffers<'a, i64>) -> Result<(), Refusal>
     requires { T.GroupsAccumulator.sound acc.old }
 {
-    feed_part(acc, series, ticks, part)?;
+    feed_part(acc, share)?;
     acc.peek(EmitTo::All, out)
 }
 
 /// A part's state rows, to be merged into these groups.
-fn states_of(
-    heap: Global,
-    rows: &[Row],
-    ticks: &Ticks,
-    part: &Part,
-    indices: Vec<usize>,
-) -> Result<States, Fault> {
-    let series = pack_series(heap, rows, |row| row.grams, 0i64)?;
-    let groups = part.groups.len();
-    let mut memory = Memory::new(heap, 0i64, groups)?;
+fn states_of(heap: Global, share: Share<'_>, indices: Vec<usize>) -> Result<States, Fault> {
+    let groups = share.part.groups.len();
+    let mut memory = Memory::<Plain<i64>>::new(heap, 0i64, groups)?;
     let mut acc = PrimitiveGroupsAccumulator::new(
         &mut memory.values,
         &mut memory.marks,
@@ -94,75 +103,45 @@ fn states_of(
         groups,
     );
     let mut out = PrimitiveBuffers::new(&mut memory.shown, &mut memory.bits);
-    peek_part(&mut acc, &series, ticks, part, &mut out)?;
+    peek_part(&mut acc, &share, &mut out)?;
     let len = out.len;
     let masked = out.masked;
     Ok(States {
-        values: memory.shown,
-        bits: memory.bits,
+        memory,
         len,
         masked,
         indices,
     })
 }
 
-/// Merges state rows, read where they were written.
-fn merge_states<'a, T: GroupsAccumulator<'a, States = PrimitiveColumn<'a, i64>>>(
-    acc: &mut T,
-    states: &'a States,
-    total: usize,
-) -> Result<(), Refusal>
-    requires { T.GroupsAccumulator.sound acc.old }
-    ensures { T.GroupsAccumulator.sound acc.new }
-{
-    let values = states.values.get(0..states.len).unwrap_or(&[]);
-    if !states.masked {
-        let column = PrimitiveColumn::plain(values);
-        return acc.merge_batch(&column, states.indices.as_slice(), total);
-    }
-    let (made, mask) = Mask::new(states.bits.as_slice(), 0, values.len());
-    made?;
-    let (made, column) = PrimitiveColumn::new(values, mask);
-    made?;
-    acc.merge_batch(&column, states.indices.as_slice(), total)
-}
-
-/// Hands a part over, merges state rows into it, and closes all its groups.
+/// Hands a part over, merges state rows into it, read where they were written, and closes all its groups.
 fn merge_part<
     'a,
     T: GroupsAccumulator<
         'a,
         Values = PrimitiveColumn<'a, i64>,
-        States = PrimitiveColumn<'a, i64>,
+        StateBuffers = PrimitiveBuffers<'a, i64>,
         Answers = PrimitiveBuffers<'a, i64>,
     >,
 >(
     acc: &mut T,
-    series: &'a Series<i64>,
-    ticks: &Ticks,
-    part: &Part,
-    states: &'a States,
+    share: &'a Share<'_>,
+    written: &PrimitiveBuffers<'a, i64>,
+    indices: &[usize],
     out: &mut PrimitiveBuffers<'a, i64>,
     shown: &mut Vec<Option<i64>>,
 ) -> Result<(), Fault>
     requires { T.GroupsAccumulator.sound acc.old }
 {
-    feed_part(acc, series, ticks, part)?;
-    merge_states(acc, states, part.groups.len())?;
+    feed_part(acc, share)?;
+    acc.merge_written(written, indices, share.part.groups.len())?;
     close(acc, EmitTo::All, out, shown)
 }
 
 /// What a part's groups show once the state rows are merged into them.
-fn merged(
-    heap: Global,
-    rows: &[Row],
-    ticks: &Ticks,
-    part: &Part,
-    states: States,
-) -> Result<Vec<Option<i64>>, Fault> {
-    let series = pack_series(heap, rows, |row| row.grams, 0i64)?;
-    let groups = part.groups.len();
-    let mut memory = Memory::new(heap, 0i64, groups)?;
+fn merged(heap: Global, share: Share<'_>, mut states: States) -> Result<Vec<Option<i64>>, Fault> {
+    let groups = share.part.groups.len();
+    let mut memory = Memory::<Plain<i64>>::new(heap, 0i64, groups)?;
     let mut acc = PrimitiveGroupsAccumulator::new(
         &mut memory.values,
         &mut memory.marks,
@@ -171,9 +150,17 @@ fn merged(
         groups,
     );
     let mut out = PrimitiveBuffers::new(&mut memory.shown, &mut memory.bits);
+    let mut written = PrimitiveBuffers::new(&mut states.memory.shown, &mut states.memory.bits);
+    written.len = states.len;
+    written.masked = states.masked;
     let mut shown = Vec::new(heap);
     merge_part(
-        &mut acc, &series, ticks, part, &states, &mut out, &mut shown,
+        &mut acc,
+        &share,
+        &written,
+        states.indices.as_slice(),
+        &mut out,
+        &mut shown,
     )?;
     Ok(shown)
 }
@@ -207,9 +194,9 @@ pub fn divide(
     let mut first = Part::new(heap, day, plan, 0..middle)?;
     let second = Part::new(heap, day, plan, middle..rows.len())?;
     let indices = open_all(heap, &mut first, &second.groups)?;
-    let states = states_of(heap, rows, &plan.ticks, &second, indices)?;
+    let states = states_of(heap, Share::new(heap, rows, plan, &second)?, indices)?;
     let merged_rows = states.len;
-    let shown = merged(heap, rows, &plan.ticks, &first, states)?;
+    let shown = merged(heap, Share::new(heap, rows, plan, &first)?, states)?;
     Ok(Division {
         first: first.batches(rows).count(|_| true),
         second: second.batches(rows).count(|_| true),

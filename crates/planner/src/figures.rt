@@ -2,8 +2,9 @@
 use crate::day::Day;
 use crate::fault::Fault;
 use crate::feed::{follow_with, lead_with};
-use crate::flags::{all_flags, any_flags};
 use crate::plan::Plan;
+use columnar::packing::{Packed, Plain};
+use operations::boolean::{And, Or};
 use operations::operation::{Latest, Max, Min, Stamp, Sum};
 use std::alloc::Global;
 
@@ -26,17 +27,35 @@ impl Figures {
     /// Feeds one accumulator after another. The first makes the plan, and the others follow it.
     pub fn new(heap: Global, day: &Day, plan: &mut Plan) -> Result<Figures, Fault> {
         let rows = day.rows.as_slice();
-        let grams = lead_with(heap, Sum, rows, |row| row.grams, plan)?;
+        let grams = lead_with::<Plain<i64>, _, _>(heap, Sum, rows, |row| row.grams, plan)?;
         Ok(Figures {
-            all_signed: all_flags(heap, rows, |row| row.signed, plan)?,
-            any_signed: any_flags(heap, rows, |row| row.signed, plan)?,
+            all_signed: follow_with::<Packed, _, _>(heap, And, rows, |row| row.signed, plan)?,
+            any_signed: follow_with::<Packed, _, _>(heap, Or, rows, |row| row.signed, plan)?,
             grams,
-            parcels: follow_with(heap, Sum, rows, |row| row.parcels, plan)?,
-            least_floor: follow_with(heap, Min, rows, |row| row.floor, plan)?,
-            greatest_floor: follow_with(heap, Max, rows, |row| row.floor, plan)?,
-            least_altitude: follow_with(heap, Min, rows, |row| row.altitude, plan)?,
-            greatest_altitude: follow_with(heap, Max, rows, |row| row.altitude, plan)?,
-            latest: follow_with(heap, Latest, rows, |row| row.moment, plan)?,
+            parcels: follow_with::<Plain<u64>, _, _>(heap, Sum, rows, |row| row.parcels, plan)?,
+            least_floor: follow_with::<Plain<i32>, _, _>(heap, Min, rows, |row| row.floor, plan)?,
+            greatest_floor: follow_with::<Plain<i32>, _, _>(
+                heap,
+                Max,
+                rows,
+                |row| row.floor,
+                plan,
+            )?,
+            least_altitude: follow_with::<Plain<i64>, _, _>(
+                heap,
+                Min,
+                rows,
+                |row| row.altitude,
+                plan,
+            )?,
+            greatest_altitude: follow_with::<Plain<i64>, _, _>(
+                heap,
+                Max,
+                rows,
+                |row| row.altitude,
+                plan,
+            )?,
+            latest: follow_with::<Plain<Stamp>, _, _>(heap, Latest, rows, |row| row.moment, plan)?,
         })
     }
 }

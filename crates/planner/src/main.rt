@@ -6,7 +6,6 @@ mod divide;
 mod fault;
 mod feed;
 mod figures;
-mod flags;
 mod options;
 mod pack;
 mod part;

@@ -1,60 +1,68 @@
 //! Columns of optional cells, packed as the views read them.
+use crate::plan::Turn;
 use crate::row::Row;
-use buffers::pack::{bytes_for, write_bits};
-use columnar::column::PrimitiveColumn;
-use columnar::filter::Filter;
-use columnar::mask::Mask;
+use buffers::writable::Writable;
+use columnar::column::FlatColumn;
+use columnar::items::{Items, Mask};
+use columnar::packing::Packed;
 use columnar::refusal::Refusal;
 use std::alloc::{AllocError, Global};
 
-/// A value for each row, with a filler under a null, and the mask of the rows that are not null.
+/// The values of rows in their slots, with a filler under a null, and the mask of the rows that are not null.
 #[derive(Drop)]
-pub struct Series<T> {
-    pub values: Vec<T>,
-    pub mask: Vec<u8>,
+pub struct Series<L: Writable> {
+    slots: Vec<L::Slot>,
+    mask: Vec<u8>,
 }
 
-/// Packed ticks, and the mask of the rows that have one.
-#[derive(Drop)]
-pub struct Ticks {
-    pub yes: Vec<u8>,
-    pub mask: Vec<u8>,
-}
+/// Packed yeses, and the mask of the rows that have one or a no.
+pub type Ticks = Series<Packed>;
 
-fn pack_bits(heap: Global, bits: &[bool]) -> Result<Vec<u8>, AllocError> {
-    let n = bits.len();
-    let mut bytes = vec![in heap; 0u8; bytes_for(n)]?;
-    write_bits(bytes.as_mut_slice(), &bits, n);
-    Ok(bytes)
-}
-
-pub fn pack_series<T: Copy, F: Fn(&Row) -> Option<T>>(
-    heap: Global,
-    rows: &[Row],
-    cell: F,
-    filler: T,
-) -> Result<Series<T>, AllocError>
-    requires { F.IsAlwaysCallable cell }
+fn pack_items<L: Writable>(heap: Global, items: &[L::Item]) -> Result<Vec<L::Slot>, AllocError>
+where
+    L::Slot: Default + Drop,
 {
-    let mut values = Vec::new(heap);
-    let mut valid = Vec::new(heap);
-    for row in rows {
-        let cell = cell(row);
-        values.push(cell.unwrap_or(filler))?;
-        valid.push(cell.is_some())?;
+    let n = items.len();
+    let mut slots = vec![in heap; L::Slot::default(); L::places(n)]?;
+    L::write(slots.as_mut_slice(), &items, n);
+    Ok(slots)
+}
+
+impl<L: Writable> Series<L>
+where
+    L::Slot: Default + Drop,
+{
+    /// What each row has in a cell of its own.
+    pub fn pack<F: Fn(&Row) -> Option<L::Item>>(
+        heap: Global,
+        rows: &[Row],
+        cell: F,
+        filler: L::Item,
+    ) -> Result<Series<L>, AllocError>
+        requires { F.IsAlwaysCallable cell }
+    {
+        let mut values = Vec::new(heap);
+        let mut valid = Vec::new(heap);
+        for row in rows {
+            let cell = cell(row);
+            values.push(cell.unwrap_or(filler))?;
+            valid.push(cell.is_some())?;
+        }
+        let slots = pack_items::<L>(heap, values.as_slice())?;
+        let mask = pack_items::<Packed>(heap, valid.as_slice())?;
+        Ok(Series { slots, mask })
     }
-    let mask = pack_bits(heap, valid.as_slice())?;
-    Ok(Series { values, mask })
-}
 
-pub fn pack_ticks<F: Fn(&Row) -> Option<bool>>(
-    heap: Global,
-    rows: &[Row],
-    cell: F,
-) -> Result<Ticks, AllocError>
-    requires { F.IsAlwaysCallable cell }
-{
-    let Series { values, mask } = pack_series(heap, rows, cell, false)?;
-    let yes = pack_bits(heap, values.as_slice())?;
-    Ok(Ticks { yes, mask })
+    /// The rows of a batch, or none where the series ends before it.
+    pub fn column(&self, turn: Turn) -> Result<FlatColumn<'_, L>, Refusal> {
+        let slots = self.slots.as_slice();
+        let ends = L::lacks(slots.len(), turn.to) || turn.from > turn.to;
+        let (start, len) = if ends {
+            (0, 0)
+        } else {
+            (turn.from, turn.to - turn.from)
+        };
+        let values = Items { slots, start, len };
+        FlatColumn::new(values, Mask::new(self.mask.as_slice(), start, len)?)
+    }
 }

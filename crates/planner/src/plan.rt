@@ -1,7 +1,7 @@
 //! What each batch is handed, what became of it, and which groups are closed after it.
 use crate::day::Day;
 use crate::fault::Fault;
-use crate::pack::{Ticks, pack_ticks};
+use crate::pack::{Series, Ticks};
 use crate::row::Row;
 use columnar::refusal::Refusal;
 use std::alloc::{AllocError, Global};
@@ -67,7 +67,7 @@ impl Plan {
         Ok(Plan {
             size,
             most_groups,
-            ticks: pack_ticks(heap, rows, |row| row.delivered)?,
+            ticks: Series::pack(heap, rows, |row| row.delivered, false)?,
             indices: Vec::new(heap),
             turns: Vec::new(heap),
             ends: group_ends(heap, rows)?,
