@@ -44,6 +44,8 @@ pub trait Accumulator: Copy {
         ensures { result ≡ kind.written (credit self.now) };
 
     /// Joins the credits of the listed rows, in the order of the list.
+    // A struct of a column and listed rows would have their clause at its making, a lifetime and a marker of the row's type
+    // besides: no plainer than the clause here, at `merge` and at `shown_of`.
     #[tactic(auto, using(crate::proofs::RowReads::rows_more))]
     fn update<C: FlatRows<Self::Value>>(&mut self, values: &C, rows: &[usize])
         requires { Within (C.Rows.cells values.now) rows.now }

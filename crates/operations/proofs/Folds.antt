@@ -13,7 +13,7 @@ use Rattle.groups.specs.Kind.{joined}
 use Rattle.operations.specs.Primitive.{join_by, primitive}
 use Rattle.operations.specs.Rules.{added_i64, added_u64, odd_of}
 use Rattle.operations.specs.Orders.{Order, Picks, itself, lesser_picks, greater_picks}
-use Rattle.operations.specs.Shown.{values, shown_of, Shows, total_z, ShowsSumI64, ShowsSumU64, ShowsLeast, ShowsGreatest, ShowsAll, ShowsAny, ShowsOdd}
+use Rattle.operations.specs.Shown.{values, shown_of, Shows, total_z, ShowsSumI64, ShowsSumU64, Least, Greatest, ShowsLeast, ShowsGreatest, ShowsAll, ShowsAny, ShowsOdd}
 
 -- P of one value, and of one more value before others, shows it of all; Q is what is known of each value
 module _ {E : Type 0} (rule : E → E → E) (Q : E → Type 0) (P : List E → E → Type 0) (one : (x : E) → Q x → P (x ∷ []) x) (more : (x : E) (vs : List E) (m : E) → Q x → P vs m → P (x ∷ vs) (rule x m)) where
@@ -51,27 +51,35 @@ shows_sum_u64 =
 first_of : {E : Type 0} (x : E) (vs : List E) → Contains (x ∷ vs) x
 first_of x vs = (0, omega arith, refl)
 
--- a rule that picks one of the two, and neither is past it
-module _ {E : Type 0} {UpTo : E → E → Type 0} {rule : E → E → E} (itself : (x : E) → UpTo x x) (onward : (a b c : E) → UpTo a b → UpTo b c → UpTo a c) (p : Picks UpTo rule) where
-  bounds : (start : E) (rs : List (Option E)) → Shows (λ vs m. Contains vs m × All (λ v. UpTo v m) vs) (values rs) (shown_of start rule rs)
-  bounds start rs =
-      shows rule (λ v. Unit {0}) (λ vs m. Contains vs m × All (λ v. UpTo v m) vs)
-      (λ x k. (first_of x [], All-cons (λ v. UpTo v x) x [] (itself x) (All-nil (λ v. UpTo v x))))
-      (λ x vs m k b. (
-        ⊎_elim
-            (λ (e : rule x m ≡ x). subst (Contains (x ∷ vs)) (sym e) (first_of x vs))
-            (λ (e : rule x m ≡ m). subst (Contains (x ∷ vs)) (sym e) (Contains-append_right (x ∷ []) vs m b.0))
-            (p.either x m),
-        All-cons (λ v. UpTo v (rule x m)) x vs (p.left x m) (All-weaker (λ v. UpTo v m) (λ v. UpTo v (rule x m)) (λ v h. onward v m (rule x m) h (p.right x m)) vs b.1),
-      ))
-      start rs (λ k d l. tt)
+member_of : {E : Type 0} {UpTo : E → E → Type 0} {rule : E → E → E} → Picks UpTo rule → (x m : E) (vs : List E) → Contains vs m → Contains (x ∷ vs) (rule x m)
+member_of {E} {UpTo} {rule} p x m vs h =
+    ⊎_elim
+    (λ (e : rule x m ≡ x). subst (Contains (x ∷ vs)) (sym e) (first_of x vs))
+    (λ (e : rule x m ≡ m). subst (Contains (x ∷ vs)) (sym e) (Contains-append_right (x ∷ []) vs m h))
+    (p.either x m)
 
 module _ {E : Type 0} {UpTo : E → E → Type 0} {rank : E → E → Ordering} (o : Order UpTo rank) where
   pub shows_least : (start : E) → ShowsLeast UpTo start (ord_min rank)
-  shows_least = bounds {UpTo = λ a b. UpTo b a} (itself o) (λ a b c p q. o.onward c b a q p) (lesser_picks o)
+  shows_least start rs =
+      let p = lesser_picks o in
+      shows (ord_min rank) (λ v. Unit {0}) (Least UpTo)
+      (λ x k. record { member = first_of x []; bound = All-cons (λ v. UpTo x v) x [] (itself o x) (All-nil (λ v. UpTo x v)) })
+      (λ x vs m k b. record {
+        member = member_of p x m vs b.member;
+        bound = All-cons (λ v. UpTo (ord_min rank x m) v) x vs (p.left x m) (All-weaker (λ v. UpTo m v) (λ v. UpTo (ord_min rank x m) v) (λ v h. o.onward (ord_min rank x m) m v (p.right x m) h) vs b.bound);
+      })
+      start rs (λ k d l. tt)
 
   pub shows_greatest : (start : E) → ShowsGreatest UpTo start (ord_max rank)
-  shows_greatest = bounds (itself o) o.onward (greater_picks o)
+  shows_greatest start rs =
+      let p = greater_picks o in
+      shows (ord_max rank) (λ v. Unit {0}) (Greatest UpTo)
+      (λ x k. record { member = first_of x []; bound = All-cons (λ v. UpTo v x) x [] (itself o x) (All-nil (λ v. UpTo v x)) })
+      (λ x vs m k b. record {
+        member = member_of p x m vs b.member;
+        bound = All-cons (λ v. UpTo v (ord_max rank x m)) x vs (p.left x m) (All-weaker (λ v. UpTo v m) (λ v. UpTo v (ord_max rank x m)) (λ v h. o.onward v m (ord_max rank x m) h (p.right x m)) vs b.bound);
+      })
+      start rs (λ k d l. tt)
 
 -- ── booleans ─────────────────────────────────────────────────────────────
 itself_true : (b : Bool) → Decides b (b ≡ true)

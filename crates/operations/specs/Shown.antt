@@ -4,6 +4,8 @@
 --     shown_of start rule rs  what is shown of the join of the rows
 --     Shows P vs c            nothing where there are no values, else a value that P says of them
 --     total_z vs              the plain sum
+--     Least UpTo vs m         a value among them that is up to each of them
+--     Greatest UpTo vs m      a value among them that each of them is up to
 use Rattle.std.specs.Prelude.{◌≡◌, ℕ, ◌%◌, ◌^◌, ◌<◌, Bool, true, List, [], ◌∷◌, ℤ, pos, ◌+ℤ◌, Some, None, Decides, sum, count_by, Option, FitsSigned}
 use Rattle.std.specs.List.{All, Contains, filter_map}
 use Rattle.std.specs.Int.{int_wrap, w64}
@@ -34,11 +36,19 @@ ShowsSumU64 start rule = (rs : List (Option ℕ)) → All (λ v. v < 2 ^ 64) (va
 
 -- ── a member that bounds all ─────────────────────────────────────────────
 module _ {E : Type 0} (UpTo : E → E → Type 0) where
+  pub record Least (vs : List E) (m : E) : Type 0 where
+    pub member : Contains vs m
+    pub bound : All (λ v. UpTo m v) vs
+
+  pub record Greatest (vs : List E) (m : E) : Type 0 where
+    pub member : Contains vs m
+    pub bound : All (λ v. UpTo v m) vs
+
   abbrev pub ShowsLeast : E → (E → E → E) → Type 0
-  ShowsLeast start rule = (rs : List (Option E)) → Shows (λ vs m. Contains vs m × All (λ v. UpTo m v) vs) (values rs) (shown_of start rule rs)
+  ShowsLeast start rule = (rs : List (Option E)) → Shows Least (values rs) (shown_of start rule rs)
 
   abbrev pub ShowsGreatest : E → (E → E → E) → Type 0
-  ShowsGreatest start rule = (rs : List (Option E)) → Shows (λ vs m. Contains vs m × All (λ v. UpTo v m) vs) (values rs) (shown_of start rule rs)
+  ShowsGreatest start rule = (rs : List (Option E)) → Shows Greatest (values rs) (shown_of start rule rs)
 
 -- ── booleans ─────────────────────────────────────────────────────────────
 abbrev pub ShowsAll : Bool → (Bool → Bool → Bool) → Type 0

@@ -1,5 +1,6 @@
+use Rattle.std.proofs.Common.{rules}
 use Rattle.operations.proofs.Folds.{shows_greatest}
 use Rattle.operations.proofs.shows.max_shows.Goals as goal
 
 pub returns : goal.returns
-returns g c = shows_greatest g.T.Bounded.order g.T.Bounded.LEAST
+returns g c = let order = g.T.Bounded.order in search (rules, shows_greatest)

@@ -1,5 +1,6 @@
+use Rattle.std.proofs.Common.{rules}
 use Rattle.operations.proofs.Folds.{shows_least}
 use Rattle.operations.proofs.shows.min_shows.Goals as goal
 
 pub returns : goal.returns
-returns g c = shows_least g.T.Bounded.order g.T.Bounded.GREATEST
+returns g c = let order = g.T.Bounded.order in search (rules, shows_least)
