@@ -99,6 +99,8 @@ pub struct ColumnBuffers<'b, L: Writable> {
     pub bits: &'b mut [u8],
     pub len: usize,
     pub masked: bool,
+    // By this it is known that `L` outlives what is lent: with a bound, as `L: 'b`, the default methods get no proof.
+    packing: PhantomData<&'b mut [L]>,
 }
 
 /// Buffers for a value a row and a mask.
@@ -160,6 +162,7 @@ impl<'b, L: Writable> ColumnBuffers<'b, L> {
             bits,
             len: 0,
             masked: false,
+            packing: PhantomData,
         }
     }
 

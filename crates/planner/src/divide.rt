@@ -8,14 +8,13 @@ use crate::plan::{Batches, Plan};
 use crate::row::Row;
 use buffers::buffers::PrimitiveBuffers;
 use columnar::column::PrimitiveColumn;
+use columnar::items::{Items, Mask};
 use columnar::packing::Plain;
 use columnar::refusal::Refusal;
 use groups::emit::EmitTo;
 use groups::groups_accumulator::GroupsAccumulator;
-use groups::limits::MOST;
 use indexmap::IndexSet;
 use operations::operation::Sum;
-use prim_op::prim_op::PrimitiveGroupsAccumulator;
 use std::alloc::Global;
 
 /// What came of it: the rows of each part, the state rows merged, the groups in the end, and the first that differs.
@@ -35,6 +34,18 @@ struct States {
     len: usize,
     masked: bool,
     indices: Vec<usize>,
+}
+
+impl States {
+    /// The state rows, read where they were written.
+    fn column(&self) -> Result<PrimitiveColumn<'_, i64>, Refusal> {
+        let values = Items::from(self.memory.shown.get(0..self.len).unwrap_or(&[]));
+        if !self.masked {
+            return Ok(PrimitiveColumn::plain(values));
+        }
+        let mask = Mask::new(self.memory.bits.as_slice(), 0, values.len)?;
+        PrimitiveColumn::new(values, mask)
+    }
 }
 
 /// A part as an accumulator is handed it.
@@ -76,34 +87,13 @@ fn feed_part<'a, T: GroupsAccumulator<'a, Values = PrimitiveColumn<'a, i64>>>(
     Ok(())
 }
 
-/// Hands a part over, and writes its groups' state rows.
-fn peek_part<
-    'a,
-    T: GroupsAccumulator<
-        'a,
-        Values = PrimitiveColumn<'a, i64>,
-        StateBuffers = PrimitiveBuffers<'a, i64>,
-    >,
->(acc: &mut T, share: &'a Share<'_>, out: &mut PrimitiveBuffers<'a, i64>) -> Result<(), Refusal>
-    requires { T.GroupsAccumulator.sound acc.old }
-{
-    feed_part(acc, share)?;
-    acc.peek(EmitTo::All, out)
-}
-
 /// A part's state rows, to be merged into these groups.
-fn states_of(heap: Global, share: Share<'_>, indices: Vec<usize>) -> Result<States, Fault> {
+fn states_of(heap: Global, share: &Share<'_>, indices: Vec<usize>) -> Result<States, Fault> {
     let groups = share.part.groups.len();
     let mut memory = Memory::<Plain<i64>>::new(heap, 0i64, groups)?;
-    let mut acc = PrimitiveGroupsAccumulator::new(
-        &mut memory.values,
-        &mut memory.marks,
-        Sum,
-        MOST,
-        groups,
-    );
-    let mut out = PrimitiveBuffers::new(&mut memory.shown, &mut memory.bits);
-    peek_part(&mut acc, &share, &mut out)?;
+    let (mut acc, mut out) = memory.lend(Sum);
+    feed_part(&mut acc, share)?;
+    acc.peek(EmitTo::All, &mut out)?;
     let len = out.len;
     let masked = out.masked;
     Ok(States {
@@ -114,54 +104,28 @@ fn states_of(heap: Global, share: Share<'_>, indices: Vec<usize>) -> Result<Stat
     })
 }
 
-/// Hands a part over, merges state rows into it, read where they were written, and closes all its groups.
-fn merge_part<
-    'a,
-    T: GroupsAccumulator<
-        'a,
-        Values = PrimitiveColumn<'a, i64>,
-        StateBuffers = PrimitiveBuffers<'a, i64>,
-        Answers = PrimitiveBuffers<'a, i64>,
-    >,
->(
+/// Merges state rows.
+fn merge_states<'a, T: GroupsAccumulator<'a, States = PrimitiveColumn<'a, i64>>>(
     acc: &mut T,
-    share: &'a Share<'_>,
-    written: &PrimitiveBuffers<'a, i64>,
-    indices: &[usize],
-    out: &mut PrimitiveBuffers<'a, i64>,
-    shown: &mut Vec<Option<i64>>,
-) -> Result<(), Fault>
+    states: &'a States,
+    total: usize,
+) -> Result<(), Refusal>
     requires { T.GroupsAccumulator.sound acc.old }
+    ensures { T.GroupsAccumulator.sound acc.new }
 {
-    feed_part(acc, share)?;
-    acc.merge_written(written, indices, share.part.groups.len())?;
-    close(acc, EmitTo::All, out, shown)
+    let column = states.column()?;
+    acc.merge_batch(&column, states.indices.as_slice(), total)
 }
 
 /// What a part's groups show once the state rows are merged into them.
-fn merged(heap: Global, share: Share<'_>, mut states: States) -> Result<Vec<Option<i64>>, Fault> {
+fn merged(heap: Global, share: &Share<'_>, states: &States) -> Result<Vec<Option<i64>>, Fault> {
     let groups = share.part.groups.len();
     let mut memory = Memory::<Plain<i64>>::new(heap, 0i64, groups)?;
-    let mut acc = PrimitiveGroupsAccumulator::new(
-        &mut memory.values,
-        &mut memory.marks,
-        Sum,
-        MOST,
-        groups,
-    );
-    let mut out = PrimitiveBuffers::new(&mut memory.shown, &mut memory.bits);
-    let mut written = PrimitiveBuffers::new(&mut states.memory.shown, &mut states.memory.bits);
-    written.len = states.len;
-    written.masked = states.masked;
+    let (mut acc, mut out) = memory.lend(Sum);
+    feed_part(&mut acc, share)?;
+    merge_states(&mut acc, states, groups)?;
     let mut shown = Vec::new(heap);
-    merge_part(
-        &mut acc,
-        &share,
-        &written,
-        states.indices.as_slice(),
-        &mut out,
-        &mut shown,
-    )?;
+    close(&mut acc, EmitTo::All, &mut out, &mut shown)?;
     Ok(shown)
 }
 
@@ -194,9 +158,9 @@ pub fn divide(
     let mut first = Part::new(heap, day, plan, 0..middle)?;
     let second = Part::new(heap, day, plan, middle..rows.len())?;
     let indices = open_all(heap, &mut first, &second.groups)?;
-    let states = states_of(heap, Share::new(heap, rows, plan, &second)?, indices)?;
+    let states = states_of(heap, &Share::new(heap, rows, plan, &second)?, indices)?;
     let merged_rows = states.len;
-    let shown = merged(heap, Share::new(heap, rows, plan, &first)?, states)?;
+    let shown = merged(heap, &Share::new(heap, rows, plan, &first)?, &states)?;
     Ok(Division {
         first: first.batches(rows).count(|_| true),
         second: second.batches(rows).count(|_| true),

@@ -20,7 +20,7 @@ pub enum Fault {
     #[error("line 1 is not the header {HEADER}")]
     Header,
     /// A call was refused that should not have been.
-    #[error("a call was refused: {}, {:?}", .0.number(), .0)]
+    #[error("a call was refused: {0}")]
     Refused(#[from] Refusal),
     #[error("no memory is left")]
     Memory(#[from(alloc)] AllocError),

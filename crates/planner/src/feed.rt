@@ -1,4 +1,6 @@
 //! An accumulator over a day: fed batch by batch, and closed group by group.
+ghost use Rattle.prim_op.specs.Means.{Sound};
+
 use crate::fault::Fault;
 use crate::pack::{Series, Ticks};
 use crate::plan::{Plan, Turn};
@@ -8,7 +10,6 @@ use buffers::pack::bytes_for;
 use buffers::writable::Writable;
 use columnar::column::FlatColumn;
 use columnar::filter::Filter;
-use columnar::packing::Packing;
 use columnar::refusal::Refusal;
 use columnar::rows::Rows;
 use groups::emit::EmitTo;
@@ -43,6 +44,21 @@ where
     }
 }
 
+impl<L: Writable> Memory<L> {
+    /// An accumulator of no groups in this memory, and buffers for its answers.
+    pub fn lend<O: Operation<L::Item>>(
+        &mut self,
+        op: O,
+    ) -> (OpGroupsAccumulator<'_, L::Item, O, L>, ColumnBuffers<'_, L>)
+        ensures { Sound O.Operation.start result.0 }
+    {
+        (
+            OpGroupsAccumulator::new(&mut self.values, &mut self.marks, op, MOST, MOST),
+            ColumnBuffers::new(&mut self.shown, &mut self.bits),
+        )
+    }
+}
+
 // That an accumulator is sound stands at each function: a struct with this as its ghost field is not covered, as a bound
 // of it has ghost members.
 /// Hands a batch over.
@@ -64,8 +80,8 @@ where
 }
 
 /// Reads an answer back from its buffers.
-fn take_answer<L: Writable>(
-    out: &ColumnBuffers<'_, L>,
+fn take_answer<'a, L: Writable>(
+    out: &ColumnBuffers<'a, L>,
     shown: &mut Vec<Option<L::Item>>,
 ) -> Result<(), Fault> {
     let column = out.column();
@@ -158,15 +174,23 @@ where
     let start = O::starting_value();
     let series: Series<L> = Series::pack(heap, rows, cell, start)?;
     let mut memory: Memory<L> = Memory::new(heap, start, plan.most_groups)?;
-    let mut acc: OpGroupsAccumulator<'_, L::Item, O, L> = OpGroupsAccumulator::new(
-        &mut memory.values,
-        &mut memory.marks,
-        op,
-        MOST,
-        plan.most_groups,
-    );
-    let mut out = ColumnBuffers::new(&mut memory.shown, &mut memory.bits);
-    lead(&mut acc, heap, &series, rows, plan, &mut out)
+    lead_in(heap, op, &series, &mut memory, rows, plan)
+}
+
+fn lead_in<L: Writable, O: Operation<L::Item> + Drop>(
+    heap: Global,
+    op: O,
+    series: &Series<L>,
+    memory: &mut Memory<L>,
+    rows: &[Row],
+    plan: &mut Plan,
+) -> Result<Vec<Option<L::Item>>, Fault>
+where
+    L::Item: Drop,
+    L::Slot: Default + Drop,
+{
+    let (mut acc, mut out) = memory.lend(op);
+    lead(&mut acc, heap, series, rows, plan, &mut out)
 }
 
 /// Each group's figure, in the order of their opening.
@@ -185,13 +209,20 @@ where
     let start = O::starting_value();
     let series: Series<L> = Series::pack(heap, rows, cell, start)?;
     let mut memory: Memory<L> = Memory::new(heap, start, plan.most_groups)?;
-    let mut acc: OpGroupsAccumulator<'_, L::Item, O, L> = OpGroupsAccumulator::new(
-        &mut memory.values,
-        &mut memory.marks,
-        op,
-        MOST,
-        plan.most_groups,
-    );
-    let mut out = ColumnBuffers::new(&mut memory.shown, &mut memory.bits);
-    follow(&mut acc, heap, &series, plan, &mut out)
+    follow_in(heap, op, &series, &mut memory, plan)
+}
+
+fn follow_in<L: Writable, O: Operation<L::Item> + Drop>(
+    heap: Global,
+    op: O,
+    series: &Series<L>,
+    memory: &mut Memory<L>,
+    plan: &Plan,
+) -> Result<Vec<Option<L::Item>>, Fault>
+where
+    L::Item: Drop,
+    L::Slot: Default + Drop,
+{
+    let (mut acc, mut out) = memory.lend(op);
+    follow(&mut acc, heap, series, plan, &mut out)
 }

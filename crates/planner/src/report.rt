@@ -70,10 +70,7 @@ fn print_refused(rt: &HostRuntime, batches: Batches<'_>) -> Result<(), Fault> {
             let rows = turn.of(batches.rows);
             let first = rows.first().map_or(0, |row| row.line);
             let last = rows.last().map_or(0, |row| row.line);
-            let number = refusal.number();
-            println!(rt;
-                "           batch {batch}, lines {first} to {last}: refusal {number}, {refusal:?}"
-            )?;
+            println!(rt; "           batch {batch}, lines {first} to {last}: refusal {refusal}")?;
         }
     }
     Ok(())
@@ -120,8 +117,7 @@ fn print_divided(rt: &HostRuntime, divided: Result<Division, Fault>) -> Result<(
     match divided {
         Ok(division) => print_division(rt, division),
         Err(Fault::Refused(refusal)) => {
-            let number = refusal.number();
-            println!(rt; "divided    refusal {number}, {refusal:?}")?;
+            println!(rt; "divided    refusal {refusal}")?;
             Ok(())
         }
         Err(fault) => Err(fault),

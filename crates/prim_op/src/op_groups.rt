@@ -243,7 +243,7 @@ impl<'m, T: Copy, O: Operation<T>, L: Writable<Item = T>> OpGroupsAccumulator<'m
     }
 }
 
-impl<'a, 'm, T: Copy + 'a, O: Operation<T>, L: Writable<Item = T>> GroupsAccumulator<'a>
+impl<'a, 'm, T: Copy + 'a, O: Operation<T>, L: Writable<Item = T> + 'a> GroupsAccumulator<'a>
     for OpGroupsAccumulator<'m, T, O, L>
 where
     L::Slot: 'a,
@@ -321,7 +321,7 @@ where
     }
 }
 
-impl<'a, 'm, T: Copy + 'a, O: Operation<T>, L: Writable<Item = T>> Commuting<'a>
+impl<'a, 'm, T: Copy + 'a, O: Operation<T>, L: Writable<Item = T> + 'a> Commuting<'a>
     for OpGroupsAccumulator<'m, T, O, L>
 where
     L::Slot: 'a,

@@ -4,6 +4,7 @@
 use buffers::buffers::PrimitiveBuffers;
 use columnar::column::PrimitiveColumn;
 use columnar::filter::Filter;
+use columnar::items::Items;
 use columnar::refusal::Refusal;
 use groups::emit::EmitTo;
 use groups::groups_accumulator::GroupsAccumulator;
@@ -35,8 +36,7 @@ fn add_up<
 
 /// The figure of the first group shown.
 fn first_of(out: &PrimitiveBuffers<'_, i64>) -> Option<i64> {
-    let values: &[i64] = out.values;
-    values.get(0..out.len)?.first().copied()
+    out.column().row(0).flatten()
 }
 
 /// The sum of so many rows of 1 in so many groups, row j in group j modulo their number: that of the first group.
@@ -58,7 +58,7 @@ fn sum_of_first(
         100_000,
         100_000,
     );
-    let column = PrimitiveColumn::plain(ones.as_slice());
+    let column = PrimitiveColumn::plain(Items::from(ones.as_slice()));
     let mut out = PrimitiveBuffers::new(shown.as_mut_slice(), bits.as_mut_slice());
     let added = add_up(&mut sums, &column, indices.as_slice(), groups, &mut out);
     Ok(added.map(|()| first_of(&out)))
@@ -70,10 +70,7 @@ fn report(rt: &HostRuntime, rows: usize, groups: usize) -> io::Result<()> {
             "{rows} rows, {groups} groups: accepted, the first group shows {sum}"
         ),
         Ok(None) => println!(rt; "{rows} rows, {groups} groups: accepted, no group"),
-        Err(refusal) => {
-            let number = refusal.number();
-            println!(rt; "{rows} rows, {groups} groups: refused by {number}, {refusal:?}")
-        }
+        Err(refusal) => println!(rt; "{rows} rows, {groups} groups: refused by {refusal}"),
     }
 }
 
