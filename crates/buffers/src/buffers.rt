@@ -2,7 +2,8 @@ ghost use Rattle.std.specs.Prelude.{◌≡◌, ℕ, ◌*◌, ◌≤◌, Bool, fa
 ghost use Rattle.columnar.specs.Cells.{Column, cells, passes, kept_rows};
 ghost use Rattle.columnar.specs.Packed.{bytes_for};
 ghost use Rattle.buffers.specs.Memory.{Laid, Room, Layout, flat_layout, stored_mask, stored_slots, flat_column, stored, mask_after, Shaped, short, held_items, readable_items, room_of};
-ghost use Rattle.columnar.specs.Views.{cells_under, ticks};
+ghost use Rattle.columnar.specs.Columns.{rows_of};
+ghost use Rattle.columnar.specs.Views.{ticks};
 
 use crate::admitted::{AdmittedFigures, AdmittedMarks};
 use crate::pack::{bytes_for, write_bits};
@@ -36,6 +37,7 @@ pub trait Buffers<X> {
 }
 
 /// Buffers with one figure a row, written from values and their marks.
+// How many rows, and whether they have a mask, are two parameters: as a struct each caller would write both out again.
 pub trait FlatBuffers<X: Copy>: Buffers<X> {
     /// Whether a column of so many rows, with a mask or without, finds its places.
     fn fits(&self, rows: usize, masked: bool) -> bool
@@ -168,7 +170,7 @@ impl<'b, L: Writable> ColumnBuffers<'b, L> {
 
     /// The column that lies in the buffers: what an answer has left in them, or no rows where they cannot be read.
     pub fn column(&self) -> FlatColumn<'_, L>
-        ensures { cells_under result.validity (L.Packing.items result.values.slots.now result.values.start result.values.len) ≡ cells (readable_items L.Packing.holds L.Packing.items (record { figures = self.now.values.now; bits = self.now.bits.now; rows = self.now.len; masked = self.now.masked })) }
+        ensures { rows_of result ≡ cells (readable_items L.Packing.holds L.Packing.items (record { figures = self.now.values.now; bits = self.now.bits.now; rows = self.now.len; masked = self.now.masked })) }
     {
         let slots: &[L::Slot] = self.values;
         let bits: &[u8] = self.bits;

@@ -3,8 +3,8 @@ ghost use Rattle.std.specs.List.{range_with_len};
 ghost use Rattle.std.specs.Result.{result_err};
 ghost use Rattle.columnar.specs.declared.refusal.Refusal.TheVariants.{ShortBuffer};
 ghost use Rattle.columnar.specs.Cells.{ticked};
-ghost use Rattle.columnar.specs.Packed.{bit_at, bytes_for, packed, unpacked};
-ghost use Rattle.columnar.specs.Views.{cells_under};
+ghost use Rattle.columnar.specs.Packed.{bit_at, bytes_for, packed};
+ghost use Rattle.columnar.specs.Columns.{rows_of};
 ghost use Rattle.buffers.specs.Memory.{front};
 
 use crate::pack::{bytes_for, write_bits};
@@ -34,7 +34,7 @@ impl<'a> Source<bool> for Anded<'a> {
 /// written where there are too few bytes.
 pub fn filter_to_validity(filter: &BooleanColumn<'_>, out: &mut [u8]) -> Result<(), Refusal>
     ensures refused { result_err result ≡ (if nat_lt (length out.old) (bytes_for filter.now.values.len) then Some ShortBuffer else None) }
-    ensures out { out.new ≡ (if nat_lt (length out.old) (bytes_for filter.now.values.len) then out.old else front (packed (ticked (cells_under filter.now.validity (unpacked filter.now.values.slots.now filter.now.values.start filter.now.values.len)) filter.now.values.len)) out.old) }
+    ensures out { out.new ≡ (if nat_lt (length out.old) (bytes_for filter.now.values.len) then out.old else front (packed (ticked (rows_of filter.now) filter.now.values.len)) out.old) }
 {
     let values = filter.values;
     let len = values.len;

@@ -1,4 +1,5 @@
 ghost use Rattle.std.specs.Prelude.{◌≡◌, ◌<◌, List, length, slice_index_or};
+ghost use Rattle.columnar.specs.Columns.{items_of};
 
 use columnar::items::Items;
 use columnar::packing::Packing;
@@ -14,7 +15,7 @@ pub trait Source<X> {
 
 /// Lent items, by place.
 impl<'a, L: Packing> Source<L::Item> for Items<'a, L> {
-    ghost items = { λ s. L.items s.slots.now s.start s.len };
+    ghost items = { items_of };
 
     fn get(&self, j: usize) -> L::Item {
         Items::get(self, j)

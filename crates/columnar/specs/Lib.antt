@@ -5,3 +5,4 @@ pub mod Lists
 pub mod Refusals
 pub mod Views
 pub mod Packings
+pub mod Columns

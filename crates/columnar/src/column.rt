@@ -15,6 +15,7 @@ use crate::validity::Validity;
 use std::alloc::AllocError;
 
 /// Items, lent, and which of their rows are valid.
+// The nulls are counted once, where the column is made: each walk asks for their number.
 pub struct FlatColumn<'a, L: Packing> {
     pub values: Items<'a, L>,
     pub validity: Validity<'a>,
@@ -43,9 +44,11 @@ pub type PrimitiveColumn<'a, T> = FlatColumn<'a, Plain<T>>;
 pub type BooleanColumn<'a> = FlatColumn<'a, Packed>;
 
 impl<'a, L: Packing> FlatColumn<'a, L> {
+    ghost use Rattle.columnar.specs.Columns.{items_of, rows_of};
+
     /// A column without a mask.
     pub fn plain(values: Items<'a, L>) -> FlatColumn<'a, L>
-        ensures { cells_under result.validity (L.items result.values.slots.now result.values.start result.values.len) ≡ column_cells None 0 (L.items values.entry.slots.now values.entry.start values.entry.len) }
+        ensures { rows_of result ≡ column_cells None 0 (items_of values.entry) }
     {
         FlatColumn {
             values,
@@ -57,7 +60,7 @@ impl<'a, L: Packing> FlatColumn<'a, L> {
     /// A column with a mask, or a refusal where the two differ in length.
     pub fn new(values: Items<'a, L>, mask: Mask<'a>) -> Result<FlatColumn<'a, L>, Refusal>
         ensures refused { result_err result ≡ lengths_refusal mask.entry.len values.entry.len }
-        ensures shows { IfOk result (λ c. cells_under c.validity (L.items c.values.slots.now c.values.start c.values.len) ≡ column_cells (Some mask.entry.slots.now) mask.entry.start (L.items values.entry.slots.now values.entry.start values.entry.len)) }
+        ensures shows { IfOk result (λ c. rows_of c ≡ column_cells (Some mask.entry.slots.now) mask.entry.start (items_of values.entry)) }
     {
         if mask.len != values.len {
             return Err(Refusal::MaskLength);
@@ -72,7 +75,7 @@ impl<'a, L: Packing> FlatColumn<'a, L> {
 
     /// Row j: absent past the end, and in it a value or null.
     pub fn row(&self, j: usize) -> Option<Option<L::Item>>
-        ensures { result ≡ option_map seen (slice_get (cells_under self.now.validity (L.items self.now.values.slots.now self.now.values.start self.now.values.len)) j) }
+        ensures { result ≡ option_map seen (slice_get (rows_of self.now) j) }
     {
         if j >= self.values.len {
             return None;
@@ -82,7 +85,9 @@ impl<'a, L: Packing> FlatColumn<'a, L> {
 }
 
 impl<'a, L: Packing> Rows<L::Item> for FlatColumn<'a, L> {
-    ghost cells = { λ c. cells_under c.validity (L.items c.values.slots.now c.values.start c.values.len) };
+    ghost use Rattle.columnar.specs.Columns.{rows_of};
+
+    ghost cells = { rows_of };
 
     fn len(&self) -> usize {
         self.values.len

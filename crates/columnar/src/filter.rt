@@ -4,7 +4,7 @@ ghost use Rattle.std.specs.Option.{option_map, unwrap_or};
 ghost use Rattle.std.specs.Result.{result_err};
 ghost use Rattle.columnar.specs.Packed.{bit_at};
 ghost use Rattle.columnar.specs.Refusals.{lengths_refusal};
-ghost use Rattle.columnar.specs.Rows.{Within, boolean_cells, valid_at, ticks_of};
+ghost use Rattle.columnar.specs.Rows.{Within, boolean_cells, valid_at};
 
 use crate::bits::bit;
 use crate::column::BooleanColumn;
@@ -37,9 +37,11 @@ impl<'a> From<BooleanColumn<'a>> for Filter<'a> {
 }
 
 impl<'a> Filter<'a> {
+    ghost use Rattle.columnar.specs.Views.{ticks};
+
     /// No filter.
     pub fn none() -> Filter<'a>
-        ensures { ticks_of (option_map (λ x. x.now) result.values) result.start (option_map (λ x. x.now) result.validity.mask) result.validity.start result.validity.len ≡ None }
+        ensures { ticks result ≡ None }
     {
         Filter {
             values: None,
@@ -50,7 +52,7 @@ impl<'a> Filter<'a> {
 
     /// A filter without a mask.
     pub fn plain(values: Mask<'a>) -> Filter<'a>
-        ensures { ticks_of (option_map (λ x. x.now) result.values) result.start (option_map (λ x. x.now) result.validity.mask) result.validity.start result.validity.len ≡ Some (boolean_cells values.entry.slots.now values.entry.start None 0 values.entry.len) }
+        ensures { ticks result ≡ Some (boolean_cells values.entry.slots.now values.entry.start None 0 values.entry.len) }
     {
         Filter::from(BooleanColumn::plain(values))
     }
@@ -58,28 +60,28 @@ impl<'a> Filter<'a> {
     /// A filter with a mask, or a refusal where the two differ in length.
     pub fn new(values: Mask<'a>, mask: Mask<'a>) -> Result<Filter<'a>, Refusal>
         ensures refused { result_err result ≡ lengths_refusal mask.entry.len values.entry.len }
-        ensures shows { IfOk result (λ f. ticks_of (option_map (λ x. x.now) f.values) f.start (option_map (λ x. x.now) f.validity.mask) f.validity.start f.validity.len ≡ Some (boolean_cells values.entry.slots.now values.entry.start (Some mask.entry.slots.now) mask.entry.start values.entry.len)) }
+        ensures shows { IfOk result (λ f. ticks f ≡ Some (boolean_cells values.entry.slots.now values.entry.start (Some mask.entry.slots.now) mask.entry.start values.entry.len)) }
     {
         Ok(Filter::from(BooleanColumn::new(values, mask)?))
     }
 
     /// Whether a filter is given.
     pub fn given(&self) -> bool
-        ensures { result ≡ is_some (ticks_of (option_map (λ x. x.now) self.now.values) self.now.start (option_map (λ x. x.now) self.now.validity.mask) self.now.validity.start self.now.validity.len) }
+        ensures { result ≡ is_some (ticks self.now) }
     {
         self.values.is_some()
     }
 
     /// The length of a filter that is given.
     pub fn ticked(&self) -> Option<usize>
-        ensures { result ≡ option_map length (ticks_of (option_map (λ x. x.now) self.now.values) self.now.start (option_map (λ x. x.now) self.now.validity.mask) self.now.validity.start self.now.validity.len) }
+        ensures { result ≡ option_map length (ticks self.now) }
     {
         self.given().then_some(self.validity.len)
     }
 
     /// Whether row j is let through: absent past the end of a filter that is given.
     pub fn row(&self, j: usize) -> Option<bool>
-        ensures { result ≡ unwrap_or (option_map (λ ts. option_map (λ t. t.valid && t.figure) (slice_get ts j)) (ticks_of (option_map (λ x. x.now) self.now.values) self.now.start (option_map (λ x. x.now) self.now.validity.mask) self.now.validity.start self.now.validity.len)) (Some true) }
+        ensures { result ≡ unwrap_or (option_map (λ ts. option_map (λ t. t.valid && t.figure) (slice_get ts j)) (ticks self.now)) (Some true) }
     {
         let Some(values) = self.values else {
             return Some(true);

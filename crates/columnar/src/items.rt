@@ -9,6 +9,7 @@ use crate::refusal::Refusal;
 use std::alloc::AllocError;
 
 /// Items of a column, lent: those of `len` rows from the place `start` on.
+// A part of a slice would not do: packed rows begin and end within a byte.
 pub struct Items<'a, L: Packing> {
     pub slots: &'a [L::Slot],
     pub start: usize,
@@ -66,6 +67,8 @@ impl<'a, T: Copy> From<&'a [T]> for Items<'a, Plain<T>> {
 }
 
 impl<'a, L: Packing> Items<'a, L> {
+    ghost use Rattle.columnar.specs.Columns.{items_of};
+
     /// The number of rows.
     pub fn len(&self) -> usize
         ensures { result ≡ self.now.len }
@@ -76,14 +79,14 @@ impl<'a, L: Packing> Items<'a, L> {
     /// Item j, of those that there are.
     pub fn get(&self, j: usize) -> L::Item
         requires { j < self.now.len }
-        ensures { result ≡ slice_index_or (L.items self.now.slots.now self.now.start self.now.len) j result }
+        ensures { result ≡ slice_index_or (items_of self.now) j result }
     {
         L::item(self.slots, self.start, j)
     }
 
     /// Row j, absent past the end.
     pub fn row(&self, j: usize) -> Option<L::Item>
-        ensures { result ≡ slice_get (L.items self.now.slots.now self.now.start self.now.len) j }
+        ensures { result ≡ slice_get (items_of self.now) j }
     {
         if j >= self.len {
             return None;

@@ -38,6 +38,7 @@ pub enum Refusal {
 
 impl Refusal {
     /// The refusal's number, 1 to 14.
+    // A number, since it is by its number that a refusal is known outside.
     pub fn number(self) -> u8
         ensures { result ≡ number_of self }
     {

@@ -40,6 +40,7 @@ pub trait GroupsAccumulator<'a> {
     ghost sound: { Self → Type 0 };
 
     /// Joins each row's credit to its group's, after opening groups up to the total.
+    // The parameters of each call are the Rust's own, in its order.
     fn update_batch(
         &mut self,
         values: &Self::Values,

@@ -2,6 +2,7 @@ ghost use Rattle.std.specs.Prelude.{◌≡◌, ◌≤◌, length};
 ghost use Rattle.groups.specs.Moves.{refilled, moved_down};
 
 /// Writes `x` over the places from `from` up to `to`.
+// Two numbers and no `Range`, which is not `Copy` and would have to be taken apart in each clause.
 // The library's `fill` asks that no clone fails, which of a `Copy` type alone is not known.
 #[tactic(auto, using(crate::proofs::Fills::filled_more))]
 pub fn fill_part<T: Copy>(slots: &mut [T], from: usize, to: usize, x: T)

@@ -6,6 +6,7 @@ use crate::emit::EmitTo;
 use crate::moves::{fill_part, move_down};
 
 /// Which groups have seen a value: each that is kept, or those that are marked.
+// Two cases and no `bool`: the Rust's own type, under its name.
 #[derive(Clone, Copy, PartialEq, Eq, Debug)]
 pub enum SeenValues {
     All,
@@ -14,6 +15,7 @@ pub enum SeenValues {
 
 /// How many groups are kept, the switch of their marks, and the marks, one a group, in lent memory: while the switch is
 /// plain they are not read, and each kept group counts as marked.
+// The memory may be longer than the groups that are kept, so that their number stands beside it.
 #[derive(Drop)]
 pub struct NullState<'m> {
     pub marks: &'m mut [bool],

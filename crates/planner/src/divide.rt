@@ -28,6 +28,7 @@ pub struct Division {
 }
 
 /// State rows as they were written, and the group that each is merged into.
+// The buffers borrow the memory, so that what they say of the answer is kept beside it.
 #[derive(Drop)]
 struct States {
     memory: Memory<Plain<i64>>,

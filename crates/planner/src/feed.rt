@@ -20,6 +20,7 @@ use prim_op::op_groups::OpGroupsAccumulator;
 use std::alloc::{AllocError, Global};
 
 /// Memory to lend: an accumulator's, and an answer's.
+// Lists side by side, as the library borrows them.
 #[derive(Drop)]
 pub struct Memory<L: Writable> {
     pub values: Vec<L::Item>,
@@ -103,62 +104,8 @@ pub fn close<'a, L: Writable, T: GroupsAccumulator<'a, Answers = ColumnBuffers<'
     take_answer(out, shown)
 }
 
-/// Makes the plan: what this accumulator refuses is handed to none.
-fn lead<
-    'a,
-    L: Writable,
-    T: GroupsAccumulator<'a, Values = FlatColumn<'a, L>, Answers = ColumnBuffers<'a, L>>,
->(
-    acc: &mut T,
-    heap: Global,
-    series: &'a Series<L>,
-    rows: &[Row],
-    plan: &mut Plan,
-    out: &mut ColumnBuffers<'a, L>,
-) -> Result<Vec<Option<L::Item>>, Fault>
-where
-    L::Slot: Default + Drop,
-    requires { T.GroupsAccumulator.sound acc.old }
-{
-    let mut shown = Vec::new(heap);
-    for part in rows.chunks(plan.size.get()) {
-        let turn = plan.propose(part)?;
-        let refusal = feed(acc, series, &plan.ticks, plan.indices.as_slice(), turn).err();
-        let closes = plan.settle(turn, refusal)?;
-        close(acc, EmitTo::First(closes), out, &mut shown)?;
-    }
-    close(acc, EmitTo::All, out, &mut shown)?;
-    Ok(shown)
-}
-
-/// Follows a plan that stands: the batches that were refused are not handed over.
-fn follow<
-    'a,
-    L: Writable,
-    T: GroupsAccumulator<'a, Values = FlatColumn<'a, L>, Answers = ColumnBuffers<'a, L>>,
->(
-    acc: &mut T,
-    heap: Global,
-    series: &'a Series<L>,
-    plan: &Plan,
-    out: &mut ColumnBuffers<'a, L>,
-) -> Result<Vec<Option<L::Item>>, Fault>
-where
-    L::Slot: Default + Drop,
-    requires { T.GroupsAccumulator.sound acc.old }
-{
-    let mut shown = Vec::new(heap);
-    for turn in plan.turns.iter() {
-        if turn.is_counted() {
-            feed(acc, series, &plan.ticks, plan.indices.as_slice(), *turn)?;
-        }
-        close(acc, EmitTo::First(turn.closes), out, &mut shown)?;
-    }
-    close(acc, EmitTo::All, out, &mut shown)?;
-    Ok(shown)
-}
-
-/// Each group's figure, in the order of their opening, by the accumulator that makes the plan.
+/// Each group's figure, in the order of their opening, by the accumulator that makes the plan: what it refuses is handed
+/// to none.
 pub fn lead_with<L: Writable, O: Operation<L::Item> + Drop, F: Fn(&Row) -> Option<L::Item>>(
     heap: Global,
     op: O,
@@ -174,26 +121,21 @@ where
     let start = O::starting_value();
     let series: Series<L> = Series::pack(heap, rows, cell, start)?;
     let mut memory: Memory<L> = Memory::new(heap, start, plan.most_groups)?;
-    lead_in(heap, op, &series, &mut memory, rows, plan)
-}
-
-fn lead_in<L: Writable, O: Operation<L::Item> + Drop>(
-    heap: Global,
-    op: O,
-    series: &Series<L>,
-    memory: &mut Memory<L>,
-    rows: &[Row],
-    plan: &mut Plan,
-) -> Result<Vec<Option<L::Item>>, Fault>
-where
-    L::Item: Drop,
-    L::Slot: Default + Drop,
-{
     let (mut acc, mut out) = memory.lend(op);
-    lead(&mut acc, heap, series, rows, plan, &mut out)
+    let mut shown = Vec::new(heap);
+    for part in rows.chunks(plan.size.get()) {
+        let turn = plan.propose(part)?;
+        let indices = plan.indices.as_slice();
+        let refusal = feed(&mut acc, &series, &plan.ticks, indices, turn).err();
+        let closes = plan.settle(turn, refusal)?;
+        close(&mut acc, EmitTo::First(closes), &mut out, &mut shown)?;
+    }
+    close(&mut acc, EmitTo::All, &mut out, &mut shown)?;
+    Ok(shown)
 }
 
-/// Each group's figure, in the order of their opening.
+/// Each group's figure, in the order of their opening, by a plan that stands: the batches that were refused are not handed
+/// over.
 pub fn follow_with<L: Writable, O: Operation<L::Item> + Drop, F: Fn(&Row) -> Option<L::Item>>(
     heap: Global,
     op: O,
@@ -209,20 +151,20 @@ where
     let start = O::starting_value();
     let series: Series<L> = Series::pack(heap, rows, cell, start)?;
     let mut memory: Memory<L> = Memory::new(heap, start, plan.most_groups)?;
-    follow_in(heap, op, &series, &mut memory, plan)
-}
-
-fn follow_in<L: Writable, O: Operation<L::Item> + Drop>(
-    heap: Global,
-    op: O,
-    series: &Series<L>,
-    memory: &mut Memory<L>,
-    plan: &Plan,
-) -> Result<Vec<Option<L::Item>>, Fault>
-where
-    L::Item: Drop,
-    L::Slot: Default + Drop,
-{
     let (mut acc, mut out) = memory.lend(op);
-    follow(&mut acc, heap, series, plan, &mut out)
+    let mut shown = Vec::new(heap);
+    for turn in plan.turns.iter() {
+        if turn.is_counted() {
+            feed(
+                &mut acc,
+                &series,
+                &plan.ticks,
+                plan.indices.as_slice(),
+                *turn,
+            )?;
+        }
+        close(&mut acc, EmitTo::First(turn.closes), &mut out, &mut shown)?;
+    }
+    close(&mut acc, EmitTo::All, &mut out, &mut shown)?;
+    Ok(shown)
 }

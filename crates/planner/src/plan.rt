@@ -40,6 +40,7 @@ pub struct Plan {
     pub indices: Vec<usize>,
     pub turns: Vec<Turn>,
     /// For each group, one past the last row that names it.
+    // A list and no map: groups are numbered from 0 on.
     ends: Vec<usize>,
     opened: usize,
     closed: usize,

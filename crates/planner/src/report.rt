@@ -6,6 +6,7 @@ use crate::figures::Figures;
 use crate::plan::{Batches, Plan};
 use crate::table::Table;
 
+// The handle that prints is a parameter of its own throughout, as it is no part of what is reported.
 fn yes_or_no(flag: &Option<bool>) -> Option<&'static str> {
     flag.map(|flag| if flag { "yes" } else { "no" })
 }

@@ -67,6 +67,7 @@ impl Table {
         }
         println!(rt; "{heads}")?;
         let lines = self.columns.first().map_or(0, |column| column.cells.len());
+        // By its number, since a line takes one cell of every column.
         for k in 0..lines {
             let mut line = String::new(self.heap);
             for column in self.columns.iter() {

@@ -1,10 +1,10 @@
 ghost use Rattle.std.specs.Prelude.{◌≡◌, ℕ, ◌-◌, ◌<◌, ◌≤◌, min, Bool, true, false, not, ◌&&◌, List, [], ◌∷◌, ◌++◌, length, take, replicate, IfSome, if◌then◌else◌, slice_index_or, slice_set};
 ghost use Rattle.groups.specs.Seen.{is_plain};
 ghost use Rattle.std.specs.Result.{result_err};
-ghost use Rattle.std.specs.List.{AllByRecursion};
-ghost use Rattle.buffers.specs.Memory.{stored};
-ghost use Rattle.columnar.specs.Views.{cells_under, ticks};
+ghost use Rattle.columnar.specs.Columns.{rows_of};
+ghost use Rattle.columnar.specs.Views.{ticks};
 ghost use Rattle.groups.specs.Emits.{count_of};
+ghost use Rattle.groups.specs.Handing.{places, HandsOut};
 ghost use Rattle.groups.specs.Limits.{cap};
 ghost use Rattle.groups.specs.Tally.{fresh, unless, update_refusal, updated, merge_refusal, merged, evaluate_refusal, answer, forget_refusal, removed, convert_refusal, converted};
 ghost use Rattle.operations.specs.Primitive.{primitive};
@@ -115,8 +115,8 @@ impl<'m, T: Copy, O: Operation<T>, L: Writable<Item = T>> OpGroupsAccumulator<'m
     ) -> Result<(), Refusal>
         requires { Sound O.Operation.start self.old }
         ensures stays { Sound O.Operation.start self.new }
-        ensures answer { result_err result ≡ update_refusal (primitive O.Operation.start O.Operation.rule) (meaning_of self.old) (cells_under values.now.validity (L.Packing.items values.now.values.slots.now values.now.values.start values.now.values.len)) (ticks opt_filter.now) group_indices.now total }
-        ensures after { meaning_of self.new ≡ unless (result_err result) (meaning_of self.old) (updated (primitive O.Operation.start O.Operation.rule) (meaning_of self.old) (cells_under values.now.validity (L.Packing.items values.now.values.slots.now values.now.values.start values.now.values.len)) (ticks opt_filter.now) group_indices.now total) }
+        ensures answer { result_err result ≡ update_refusal (primitive O.Operation.start O.Operation.rule) (meaning_of self.old) (rows_of values.now) (ticks opt_filter.now) group_indices.now total }
+        ensures after { meaning_of self.new ≡ unless (result_err result) (meaning_of self.old) (updated (primitive O.Operation.start O.Operation.rule) (meaning_of self.old) (rows_of values.now) (ticks opt_filter.now) group_indices.now total) }
     {
         let kept = self.null_state.kept;
         let limits = self.limits;
@@ -140,8 +140,8 @@ impl<'m, T: Copy, O: Operation<T>, L: Writable<Item = T>> OpGroupsAccumulator<'m
         out: &mut B,
     ) -> Result<(), Refusal>
         requires { Sound O.Operation.start self.now }
-        ensures answer { result_err result ≡ evaluate_refusal (primitive O.Operation.start O.Operation.rule) B.Buffers.layout (meaning_of self.now) emit_to (B.Buffers.room (B.Buffers.memory out.old)) }
-        ensures written { B.Buffers.memory out.new ≡ unless (result_err result) (B.Buffers.memory out.old) (stored B.Buffers.masks B.Buffers.figures (answer (primitive O.Operation.start O.Operation.rule) (meaning_of self.now) emit_to) (B.Buffers.memory out.old)) }
+        ensures answer { result_err result ≡ evaluate_refusal (primitive O.Operation.start O.Operation.rule) B.Buffers.layout (meaning_of self.now) emit_to (places B.Buffers out.old) }
+        ensures written { HandsOut B.Buffers (result_err result) (answer (primitive O.Operation.start O.Operation.rule) (meaning_of self.now) emit_to) out.old out.new }
     {
         let kept = self.null_state.kept;
         let rows = emit_to.count(kept);
@@ -177,9 +177,9 @@ impl<'m, T: Copy, O: Operation<T>, L: Writable<Item = T>> OpGroupsAccumulator<'m
     ) -> Result<(), Refusal>
         requires { Sound O.Operation.start self.old }
         ensures stays { Sound O.Operation.start self.new }
-        ensures answer { result_err result ≡ evaluate_refusal (primitive O.Operation.start O.Operation.rule) B.Buffers.layout (meaning_of self.old) emit_to (B.Buffers.room (B.Buffers.memory out.old)) }
+        ensures answer { result_err result ≡ evaluate_refusal (primitive O.Operation.start O.Operation.rule) B.Buffers.layout (meaning_of self.old) emit_to (places B.Buffers out.old) }
         ensures after { meaning_of self.new ≡ unless (result_err result) (meaning_of self.old) (removed (primitive O.Operation.start O.Operation.rule) (meaning_of self.old) emit_to) }
-        ensures written { B.Buffers.memory out.new ≡ unless (result_err result) (B.Buffers.memory out.old) (stored B.Buffers.masks B.Buffers.figures (answer (primitive O.Operation.start O.Operation.rule) (meaning_of self.old) emit_to) (B.Buffers.memory out.old)) }
+        ensures written { HandsOut B.Buffers (result_err result) (answer (primitive O.Operation.start O.Operation.rule) (meaning_of self.old) emit_to) out.old out.new }
     {
         self.show(emit_to, out)?;
         self.remove(emit_to);
@@ -195,8 +195,8 @@ impl<'m, T: Copy, O: Operation<T>, L: Writable<Item = T>> OpGroupsAccumulator<'m
     ) -> Result<(), Refusal>
         requires { Sound O.Operation.start self.old }
         ensures stays { Sound O.Operation.start self.new }
-        ensures answer { result_err result ≡ merge_refusal (primitive O.Operation.start O.Operation.rule) (meaning_of self.old) (cells_under values.now.validity (L.Packing.items values.now.values.slots.now values.now.values.start values.now.values.len)) group_indices.now total }
-        ensures after { meaning_of self.new ≡ unless (result_err result) (meaning_of self.old) (merged (primitive O.Operation.start O.Operation.rule) (meaning_of self.old) (cells_under values.now.validity (L.Packing.items values.now.values.slots.now values.now.values.start values.now.values.len)) group_indices.now total) }
+        ensures answer { result_err result ≡ merge_refusal (primitive O.Operation.start O.Operation.rule) (meaning_of self.old) (rows_of values.now) group_indices.now total }
+        ensures after { meaning_of self.new ≡ unless (result_err result) (meaning_of self.old) (merged (primitive O.Operation.start O.Operation.rule) (meaning_of self.old) (rows_of values.now) group_indices.now total) }
     {
         let none = Filter::none();
         self.update_rows(values, group_indices, &none, total)
@@ -225,8 +225,8 @@ impl<'m, T: Copy, O: Operation<T>, L: Writable<Item = T>> OpGroupsAccumulator<'m
         opt_filter: &Filter<'_>,
         out: &mut B,
     ) -> Result<(), Refusal>
-        ensures answer { result_err result ≡ convert_refusal (primitive O.Operation.start O.Operation.rule) B.Buffers.layout (meaning_of self.now) (C.Rows.cells values.now) (ticks opt_filter.now) (B.Buffers.room (B.Buffers.memory out.old)) }
-        ensures written { B.Buffers.memory out.new ≡ unless (result_err result) (B.Buffers.memory out.old) (stored B.Buffers.masks B.Buffers.figures (converted (primitive O.Operation.start O.Operation.rule) (C.Rows.cells values.now) (ticks opt_filter.now)) (B.Buffers.memory out.old)) }
+        ensures answer { result_err result ≡ convert_refusal (primitive O.Operation.start O.Operation.rule) B.Buffers.layout (meaning_of self.now) (C.Rows.cells values.now) (ticks opt_filter.now) (places B.Buffers out.old) }
+        ensures written { HandsOut B.Buffers (result_err result) (converted (primitive O.Operation.start O.Operation.rule) (C.Rows.cells values.now) (ticks opt_filter.now)) out.old out.new }
     {
         let rows = values.len();
         if rows > self.limits.rows {

@@ -1,6 +1,6 @@
 -- Which rows count, by row number: a column without nulls is one without a mask, and a filter's ticks are its test of each row.
 use Rattle.std.proofs.Common.{◌≡◌, ℕ, zero, suc, ◌+◌, ◌*◌, ◌≤◌, Bool, true, false, cond, not, ◌&&◌, List, [], ◌∷◌, map, length, IfSome, Some, None, Option, sym, refl, ap, ap₂, ◌∙◌, subst, arith}
-use Rattle.std.specs.List.{range_with_len, AllByRecursion}
+use Rattle.std.specs.List.{range_with_len, All}
 use Rattle.std.proofs.lemmas.List.Sums.{sum_by-cons}
 use Rattle.columnar.specs.Cells.{Cell, cell, nulls, passes, all_pass, ticked}
 use Rattle.columnar.specs.Packed.{bit_at, unpacked}
@@ -63,5 +63,5 @@ module _ {V : Type 0} (gs : List ℕ) {cs cs' : List (Cell V)} {ps ps' : List Bo
   pub told_rows : {M : Type 0} (after : M → ℕ → V → M) (m₀ : M) {m : M} → m ≡ told_all after m₀ (visits gs cs' ps') → m ≡ told_all after m₀ (visits gs cs ps)
   told_rows after m₀ told = told ∙ ap (told_all after m₀) same_visits
 
-  pub fits_rows : (fit : V → Type 0) → AllByRecursion (λ (v : ℕ × V). fit v.1) (visits gs cs' ps') → AllByRecursion (λ (v : ℕ × V). fit v.1) (visits gs cs ps)
-  fits_rows fit fits = subst (AllByRecursion (λ (v : ℕ × V). fit v.1)) same_visits fits
+  pub fits_rows : (fit : V → Type 0) → All (λ (v : ℕ × V). fit v.1) (visits gs cs' ps') → All (λ (v : ℕ × V). fit v.1) (visits gs cs ps)
+  fits_rows fit fits = subst (All (λ (v : ℕ × V). fit v.1)) same_visits fits

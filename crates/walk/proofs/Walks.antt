@@ -1,7 +1,8 @@
 -- The walk by row numbers: what is left of the rows, and a loop's step.
 use Rattle.std.proofs.Common.{◌≡◌, ℕ, ◌+◌, ◌<◌, ◌≤◌, Bool, true, false, cond, ◌&&◌, List, [], ◌∷◌, map, length, get_or, drop, sym, refl, ap, ◌∙◌, subst, arith}
-use Rattle.std.specs.List.{zip, range_with_len, AllByRecursion}
+use Rattle.std.specs.List.{zip, range_with_len, All, AllByRecursion}
 use Rattle.std.proofs.ByRecursion.{All-get_or}
+use Rattle.std.proofs.lemmas.List.Elements.{All-from_recursion, recursion_from_All}
 use Rattle.std.proofs.lemmas.List.{drop_more, drop_all, drop-drop}
 use Rattle.std.proofs.lemmas.Slice.Zip.{length-zip, get_or-zip}
 use Rattle.std.proofs.lemmas.Bool.{and_from, and_left, and_right}
@@ -93,11 +94,11 @@ module _ {V M : Type 0} {after : M → ℕ → V → M} {fit : V → Type 0} {va
     pub rows_told : m ≡ told_all after m₀ (visits gs (cells_from p 0 xs) (map q (range_with_len 0 (length gs))))
     rows_told = walked_told (w.by_tests p q s t) rows_end ∙ ap (told_all after m₀) (sym (visits_from p q 0 gs xs))
 
-    pub rows_fits : AllByRecursion (λ (v : ℕ × V). fit v.1) (visits gs (cells_from p 0 xs) (map q (range_with_len 0 (length gs))))
-    rows_fits = subst (AllByRecursion (λ (v : ℕ × V). fit v.1)) (sym (visits_from p q 0 gs xs)) (walked_fits (w.by_tests p q s t) rows_end)
+    pub rows_fits : All (λ (v : ℕ × V). fit v.1) (visits gs (cells_from p 0 xs) (map q (range_with_len 0 (length gs))))
+    rows_fits = subst (All (λ (v : ℕ × V). fit v.1)) (sym (visits_from p q 0 gs xs)) (All-from_recursion _ _ (walked_fits (w.by_tests p q s t) rows_end))
 
-pub named_below : (n : ℕ) (gs : List ℕ) (i : ℕ) → AllByRecursion (λ k. k < n) gs → i < length gs → get_or gs i 0 < n
-named_below n gs i all h = All-get_or (λ k. k < n) gs i 0 h all
+pub named_below : (n : ℕ) (gs : List ℕ) (i : ℕ) → All (λ k. k < n) gs → i < length gs → get_or gs i 0 < n
+named_below n gs i all h = All-get_or (λ k. k < n) gs i 0 h (recursion_from_All (λ k. k < n) gs all)
 
 pub groups_same : {X : Type 0} {a b : ℕ × X} → a ≡ b → a.0 ≡ b.0
 groups_same e = ap (λ y. y.0) e

@@ -1,9 +1,9 @@
 ghost use Rattle.std.specs.Prelude.{◌≡◌, ℕ, ◌<◌, Bool, List, map, length, IfSome};
-ghost use Rattle.std.specs.List.{range_with_len, AllByRecursion};
+ghost use Rattle.std.specs.List.{range_with_len, All};
 ghost use Rattle.columnar.specs.Cells.{passes as let_through};
-ghost use Rattle.columnar.specs.Packed.{unpacked};
 ghost use Rattle.columnar.specs.Rows.{cells_from};
-ghost use Rattle.columnar.specs.Views.{cells_under, ticks};
+ghost use Rattle.columnar.specs.Columns.{items_of, rows_of};
+ghost use Rattle.columnar.specs.Views.{ticks};
 ghost use Rattle.walk.specs.Visits.{visits, told_all, Tests};
 
 use columnar::column::{BooleanColumn, FlatColumn};
@@ -42,12 +42,12 @@ fn walk<L: Packing, P: Fn(usize) -> bool, Q: Fn(usize) -> bool, V: Visitor<L::It
     visitor: &mut V,
 )
     requires even { length group_indices.now ≡ values.now.len }
-    requires named { AllByRecursion (λ k. k < (V.Visitor.fixed visitor.old).0) group_indices.now }
+    requires named { All (λ k. k < (V.Visitor.fixed visitor.old).0) group_indices.now }
     requires valid { (j : ℕ) → j < length group_indices.now → P.pre valid j }
     requires passes { (j : ℕ) → j < length group_indices.now → Q.pre passes j }
-    ensures told { (p q : ℕ → Bool) → Tests (P.post valid) p (length group_indices.now) → Tests (Q.post passes) q (length group_indices.now) → V.Visitor.model visitor.new ≡ told_all V.Visitor.after (V.Visitor.model visitor.old) (visits group_indices.now (cells_from p 0 (L.items values.now.slots.now values.now.start values.now.len)) (map q (range_with_len 0 (length group_indices.now)))) }
+    ensures told { (p q : ℕ → Bool) → Tests (P.post valid) p (length group_indices.now) → Tests (Q.post passes) q (length group_indices.now) → V.Visitor.model visitor.new ≡ told_all V.Visitor.after (V.Visitor.model visitor.old) (visits group_indices.now (cells_from p 0 (items_of values.now)) (map q (range_with_len 0 (length group_indices.now)))) }
     ensures same { V.Visitor.fixed visitor.new ≡ V.Visitor.fixed visitor.old }
-    ensures fits { (p q : ℕ → Bool) → Tests (P.post valid) p (length group_indices.now) → Tests (Q.post passes) q (length group_indices.now) → AllByRecursion (λ v. V.Visitor.fit v.1) (visits group_indices.now (cells_from p 0 (L.items values.now.slots.now values.now.start values.now.len)) (map q (range_with_len 0 (length group_indices.now)))) }
+    ensures fits { (p q : ℕ → Bool) → Tests (P.post valid) p (length group_indices.now) → Tests (Q.post passes) q (length group_indices.now) → All (λ v. V.Visitor.fit v.1) (visits group_indices.now (cells_from p 0 (items_of values.now)) (map q (range_with_len 0 (length group_indices.now)))) }
 {
     for (j, group) in group_indices.iter().enumerate() {
         if valid(j) && passes(j) {
@@ -63,13 +63,14 @@ pub fn accumulate<L: Packing, V: Visitor<L::Item>>(
     opt_filter: &Filter<'_>,
     visitor: &mut V,
 )
-    requires even { length group_indices.now ≡ length (cells_under values.now.validity (L.items values.now.values.slots.now values.now.values.start values.now.values.len)) }
-    requires named { AllByRecursion (λ k. k < (V.Visitor.fixed visitor.old).0) group_indices.now }
+    requires even { length group_indices.now ≡ length (rows_of values.now) }
+    requires named { All (λ k. k < (V.Visitor.fixed visitor.old).0) group_indices.now }
     requires ticked { IfSome (ticks opt_filter.now) (λ ts. length ts ≡ length group_indices.now) }
-    ensures told { V.Visitor.model visitor.new ≡ told_all V.Visitor.after (V.Visitor.model visitor.old) (visits group_indices.now (cells_under values.now.validity (L.items values.now.values.slots.now values.now.values.start values.now.values.len)) (let_through (ticks opt_filter.now) (length group_indices.now))) }
+    ensures told { V.Visitor.model visitor.new ≡ told_all V.Visitor.after (V.Visitor.model visitor.old) (visits group_indices.now (rows_of values.now) (let_through (ticks opt_filter.now) (length group_indices.now))) }
     ensures same { V.Visitor.fixed visitor.new ≡ V.Visitor.fixed visitor.old }
-    ensures fits { AllByRecursion (λ v. V.Visitor.fit v.1) (visits group_indices.now (cells_under values.now.validity (L.items values.now.values.slots.now values.now.values.start values.now.values.len)) (let_through (ticks opt_filter.now) (length group_indices.now))) }
+    ensures fits { All (λ v. V.Visitor.fit v.1) (visits group_indices.now (rows_of values.now) (let_through (ticks opt_filter.now) (length group_indices.now))) }
 {
+    // One match over the four cases, as the Rust has it, which picks the two tests of the one walk.
     let items = &values.values;
     let validity = &values.validity;
     let at = opt_filter.start;
@@ -108,12 +109,12 @@ pub fn accumulate_boolean<V: Visitor<bool>>(
     opt_filter: &Filter<'_>,
     visitor: &mut V,
 )
-    requires even { length group_indices.now ≡ length (cells_under values.now.validity (unpacked values.now.values.slots.now values.now.values.start values.now.values.len)) }
-    requires named { AllByRecursion (λ k. k < (V.Visitor.fixed visitor.old).0) group_indices.now }
+    requires even { length group_indices.now ≡ length (rows_of values.now) }
+    requires named { All (λ k. k < (V.Visitor.fixed visitor.old).0) group_indices.now }
     requires ticked { IfSome (ticks opt_filter.now) (λ ts. length ts ≡ length group_indices.now) }
-    ensures told { V.Visitor.model visitor.new ≡ told_all V.Visitor.after (V.Visitor.model visitor.old) (visits group_indices.now (cells_under values.now.validity (unpacked values.now.values.slots.now values.now.values.start values.now.values.len)) (let_through (ticks opt_filter.now) (length group_indices.now))) }
+    ensures told { V.Visitor.model visitor.new ≡ told_all V.Visitor.after (V.Visitor.model visitor.old) (visits group_indices.now (rows_of values.now) (let_through (ticks opt_filter.now) (length group_indices.now))) }
     ensures same { V.Visitor.fixed visitor.new ≡ V.Visitor.fixed visitor.old }
-    ensures fits { AllByRecursion (λ v. V.Visitor.fit v.1) (visits group_indices.now (cells_under values.now.validity (unpacked values.now.values.slots.now values.now.values.start values.now.values.len)) (let_through (ticks opt_filter.now) (length group_indices.now))) }
+    ensures fits { All (λ v. V.Visitor.fit v.1) (visits group_indices.now (rows_of values.now) (let_through (ticks opt_filter.now) (length group_indices.now))) }
 {
     let bits = &values.values;
     let known = &values.validity;

@@ -1,4 +1,4 @@
-use Rattle.std.proofs.Common.{sym, refl, ap, ◌∙◌, arith}
+use Rattle.std.proofs.Common.{sym, refl, ap, ◌∙◌, arith, rules}
 use Rattle.walk.proofs.Walks.{rows_none, rows_visit, rows_null, rows_kept_out, rows_told, rows_fits, named_below, groups_same}
 use Rattle.walk.proofs.accumulate.walk.Goals as goal
 use Rattle.walk.proofs.accumulate.walk.Goals.{then-valid+then-passes, else-valid, else-valid-via-then-valid+else-passes, else-valid-via-else-valid}
@@ -16,11 +16,11 @@ loop-j-preserved g c =
     let count = g.met.L.Packing.counts xs.slots.now xs.start xs.len xs.fits in
     elim c.if-valid.branch [
       | then-valid+then-passes w ↦ (
-        ap v.fixed w.visitor-is ∙ w.visit.ensures.same ∙ c.loop-j.invariant.0,
+        search rules,
         rows_visit c.loop-j.invariant.1 c.loop-j-test.true c.valid.ensures w.if-valid.true w.passes.ensures w.if-passes.true (count ∙ sym c.requires.even) w.get.ensures (ap v.model w.visitor-is ∙ w.visit.ensures.told) w.visit.ensures.fit,
       )
       | else-valid w ↦ (
-        ap v.fixed w.visitor-is ∙ c.loop-j.invariant.0,
+        search rules,
         elim w.else-valid.branch [
           | else-valid-via-then-valid+else-passes w' ↦ rows_kept_out c.loop-j.invariant.1 c.loop-j-test.true w'.passes.ensures w'.if-passes.false (ap v.model w.visitor-is)
           | else-valid-via-else-valid w' ↦ rows_null c.loop-j.invariant.1 c.loop-j-test.true c.valid.ensures w'.if-valid.false (ap v.model w.visitor-is)

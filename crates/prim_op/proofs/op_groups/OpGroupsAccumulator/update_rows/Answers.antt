@@ -1,6 +1,7 @@
 use Rattle.std.proofs.Common.{◌≡◌, ◌-◌, ◌<◌, ◌≤◌, min, Bool, false, not, ◌||◌, ltb, List, ◌++◌, map, length, take, replicate, is_some, None, unwrap_or, sym, refl, ap, ◌∙◌, subst, arith}
 use Rattle.std.specs.Option.{option_map}
 use Rattle.std.proofs.ByRecursion.{All-weaker}
+use Rattle.std.proofs.lemmas.List.Elements.{All-from_recursion, recursion_from_All}
 use Rattle.std.proofs.lemmas.Result.{err_from_is_err_and}
 use Rattle.std.proofs.lemmas.Bool.{and_parts}
 use Rattle.columnar.specs.Cells.{passes, nulls, seen}
@@ -51,7 +52,7 @@ accumulate-requires g c =
     let a = (accepted s.limits.rows s.limits.groups s.null_state.kept c.len.result c.args.group_indices.now c.ticked.result c.args.total _ (sym c.in_ok-refuse.ensures.answer)).0 in
     record {
       even = sym a.even ∙ c.len.ensures;
-      named = All-weaker (λ k. k < c.args.total) (λ k. k < min (length t.values.now) (length t.null_state.marks.now)) (λ k h. omega (arith, a.room, c.open.ensures.values_len, c.open.ensures.marks_len)) c.args.group_indices.now a.below;
+      named = All-from_recursion _ _ (All-weaker (λ k. k < c.args.total) (λ k. k < min (length t.values.now) (length t.null_state.marks.now)) (λ k h. omega (arith, a.room, c.open.ensures.values_len, c.open.ensures.marks_len)) c.args.group_indices.now a.below);
       ticked = ticks_long (ticks c.args.opt_filter.now) c.len.result (length c.args.group_indices.now) (ap (λ q. unwrap_or q c.len.result) (sym c.ticked.ensures) ∙ a.filter) a.even;
     }
 
@@ -89,7 +90,7 @@ returns g c =
       room_values = in-values;
       room_marks = in-marks;
       below = visits_below total gs rows (passes f (length gs)) a.below;
-      fit = c.accumulate.ensures.fits;
+      fit = recursion_from_All _ _ c.accumulate.ensures.fits;
       unset = c.requires.unset;
       values_opened = c.open.ensures.values;
       values_told = ap (λ y. y.0) told;
