@@ -57,7 +57,7 @@ pub trait Accumulator: Copy {
     }
 
     /// Joins the credits of the listed state rows, in the order of the list.
-    // A twin of `update` in form alone: it joins by another law, of another type of row.
+    // A twin of `update` in form alone, by another law: one function for both would have that law as a closure's clause.
     #[tactic(auto, using(crate::proofs::RowReads::states_more))]
     fn merge<C: FlatRows<Self::State>>(&mut self, states: &C, rows: &[usize])
         requires { Within (C.Rows.cells states.now) rows.now }

@@ -39,9 +39,11 @@ pub trait Buffers<X> {
 /// Buffers with one figure a row, written from values and their marks.
 // How many rows, and whether they have a mask, are two parameters: as a struct each caller would write both out again.
 pub trait FlatBuffers<X: Copy>: Buffers<X> {
+    ghost use Rattle.buffers.specs.Places.{places};
+
     /// Whether a column of so many rows, with a mask or without, finds its places.
     fn fits(&self, rows: usize, masked: bool) -> bool
-        ensures { (c : Column X) → Shaped c rows masked → result ≡ not (short Self.Buffers.layout (Self.Buffers.room (Self.Buffers.memory self.now)) c) };
+        ensures { (c : Column X) → Shaped c rows masked → result ≡ not (short Self.Buffers.layout (places Self.Buffers self.now) c) };
 
     /// Lays down the first `rows` items of a source, and those of a source of marks as their mask or none.
     fn put_from<V: Source<X>, M: Source<bool>>(
@@ -53,14 +55,14 @@ pub trait FlatBuffers<X: Copy>: Buffers<X> {
     )
         requires values { rows ≤ length (V.Source.items values.now) }
         requires marks { rows ≤ length (M.Source.items marks.now) }
-        requires room { short Self.Buffers.layout (Self.Buffers.room (Self.Buffers.memory self.old)) (flat_column (V.Source.items values.now) (M.Source.items marks.now) rows masked) ≡ false }
+        requires room { short Self.Buffers.layout (places Self.Buffers self.old) (flat_column (V.Source.items values.now) (M.Source.items marks.now) rows masked) ≡ false }
         ensures { Self.Buffers.memory self.new ≡ stored Self.Buffers.masks Self.Buffers.figures (flat_column (V.Source.items values.now) (M.Source.items marks.now) rows masked) (Self.Buffers.memory self.old) };
 
     /// Lays down the first `rows` values, and the marks of these rows as their mask or none.
     fn put(&mut self, values: &[X], marks: &[bool], rows: usize, masked: bool)
         requires values { rows ≤ length values.now }
         requires marks { rows ≤ length marks.now }
-        requires room { short Self.Buffers.layout (Self.Buffers.room (Self.Buffers.memory self.old)) (flat_column values.now marks.now rows masked) ≡ false }
+        requires room { short Self.Buffers.layout (places Self.Buffers self.old) (flat_column values.now marks.now rows masked) ≡ false }
         ensures { Self.Buffers.memory self.new ≡ stored Self.Buffers.masks Self.Buffers.figures (flat_column values.now marks.now rows masked) (Self.Buffers.memory self.old) }
     {
         self.put_from(&values, &marks, rows, masked);
@@ -69,7 +71,7 @@ pub trait FlatBuffers<X: Copy>: Buffers<X> {
     /// Lays down the rows of a column under a filter: each that is valid and let through as its value, every other as
     /// null over the filler.
     fn put_rows<C: FlatRows<X>>(&mut self, values: &C, opt_filter: &Filter<'_>, filler: X)
-        requires room { short Self.Buffers.layout (Self.Buffers.room (Self.Buffers.memory self.old)) (kept_rows filler (passes (ticks opt_filter.now) (length (C.Rows.cells values.now))) (C.Rows.cells values.now)) ≡ false }
+        requires room { short Self.Buffers.layout (places Self.Buffers self.old) (kept_rows filler (passes (ticks opt_filter.now) (length (C.Rows.cells values.now))) (C.Rows.cells values.now)) ≡ false }
         ensures { Self.Buffers.memory self.new ≡ stored Self.Buffers.masks Self.Buffers.figures (kept_rows filler (passes (ticks opt_filter.now) (length (C.Rows.cells values.now))) (C.Rows.cells values.now)) (Self.Buffers.memory self.old) }
     {
         let rows = values.len();
@@ -94,7 +96,7 @@ fn has_room(figures: usize, places: usize, bits: usize, bytes: usize, masked: bo
 }
 
 /// Buffers for a figure a row and a mask, over lent memory: how long the answer in them is, and whether it has a mask.
-// The memory is lent and may be longer than the answer, so that its length stands beside it.
+// The memory is lent and may be longer than the answer, so that its length, and whether the mask is of it, stand beside it.
 #[derive(Drop)]
 pub struct ColumnBuffers<'b, L: Writable> {
     pub values: &'b mut [L::Slot],

@@ -5,6 +5,7 @@ use columnar::items::Items;
 use columnar::packing::Packing;
 
 /// Items read by place, to write an answer from.
+// A trait and no closure: that the items are a list is a ghost member, which each clause names in place of a premise.
 pub trait Source<X> {
     ghost items: { Self → List X };
 

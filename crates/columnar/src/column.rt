@@ -15,7 +15,7 @@ use crate::validity::Validity;
 use std::alloc::AllocError;
 
 /// Items, lent, and which of their rows are valid.
-// The nulls are counted once, where the column is made: each walk asks for their number.
+// The Rust keeps the number of nulls beside them too, and by a rule of the project each walk matches on it.
 pub struct FlatColumn<'a, L: Packing> {
     pub values: Items<'a, L>,
     pub validity: Validity<'a>,

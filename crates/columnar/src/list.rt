@@ -16,6 +16,7 @@ pub struct ListColumn<'a, T> {
 }
 
 /// Whether offsets cannot stand over so many items.
+// One loop: with `is_sorted` there would be three tests, of the first offset, of the order and of the last.
 fn refused(offsets: &[i32], items: usize) -> bool
     ensures { result ≡ offsets_refused offsets.now items }
 {

@@ -7,7 +7,7 @@ use crate::bits::bit;
 use crate::items::Mask;
 
 /// Which of `len` rows are valid: those that the mask, read from bit `start` on, has as valid, or all where there is none.
-// The bytes are optional, and not a view of them: a view with an invariant stands in no `Option` here.
+// It is the bytes that are optional: by a rule of the project no view with an invariant stands in an `Option`.
 #[derive(Clone, Copy)]
 pub struct Validity<'a> {
     pub mask: Option<&'a [u8]>,

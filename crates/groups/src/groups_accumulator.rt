@@ -3,7 +3,8 @@ ghost use Rattle.std.specs.Result.{result_err};
 ghost use Rattle.columnar.specs.Views.{ticks};
 ghost use Rattle.groups.specs.Kind.{Kind, Laws, Commutes};
 ghost use Rattle.groups.specs.Tally.{Means, unless, update_refusal, updated, merge_refusal, merged, evaluate_refusal, answer, peek_refusal, peeked, forget_refusal, removed, convert_refusal, converted};
-ghost use Rattle.groups.specs.Handing.{places, rows_in, HandsOut};
+ghost use Rattle.buffers.specs.Places.{places, rows_in};
+ghost use Rattle.groups.specs.Handing.{HandsOut};
 
 use crate::emit::EmitTo;
 use buffers::buffers::Buffers;

@@ -12,6 +12,7 @@ pub trait Key: Copy + Eq {
     ghost hash: { ℕ → Self → ℕ };
 
     /// Whether two keys count as one.
+    // Beside `==` for its clause, by which whoever is generic names the test.
     fn is(self, other: Self) -> bool
         ensures { result ≡ Self.eq self other }
     {

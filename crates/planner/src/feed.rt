@@ -136,6 +136,7 @@ where
 
 /// Each group's figure, in the order of their opening, by a plan that stands: the batches that were refused are not handed
 /// over.
+// Alike but for its loop, in which no plan is made: the two loops as closures would lend the accumulator through a bound.
 pub fn follow_with<L: Writable, O: Operation<L::Item> + Drop, F: Fn(&Row) -> Option<L::Item>>(
     heap: Global,
     op: O,

@@ -6,7 +6,6 @@ use crate::figures::Figures;
 use crate::plan::{Batches, Plan};
 use crate::table::Table;
 
-// The handle that prints is a parameter of its own throughout, as it is no part of what is reported.
 fn yes_or_no(flag: &Option<bool>) -> Option<&'static str> {
     flag.map(|flag| if flag { "yes" } else { "no" })
 }
@@ -40,6 +39,7 @@ fn print_groups(rt: &HostRuntime, figures: &Figures) -> Result<(), Fault> {
     table.print(rt)
 }
 
+// The handle that prints is a parameter of its own throughout, as it is no part of what is reported.
 fn print_nulls(rt: &HostRuntime, batches: Batches<'_>) -> Result<(), Fault> {
     let signed = batches.count(|row| row.signed.is_none());
     let grams = batches.count(|row| row.grams.is_none());

@@ -4,7 +4,8 @@ ghost use Rattle.std.specs.Result.{result_err};
 ghost use Rattle.columnar.specs.Columns.{rows_of};
 ghost use Rattle.columnar.specs.Views.{ticks};
 ghost use Rattle.groups.specs.Emits.{count_of};
-ghost use Rattle.groups.specs.Handing.{places, HandsOut};
+ghost use Rattle.buffers.specs.Places.{places};
+ghost use Rattle.groups.specs.Handing.{HandsOut};
 ghost use Rattle.groups.specs.Limits.{cap};
 ghost use Rattle.groups.specs.Tally.{fresh, unless, update_refusal, updated, merge_refusal, merged, evaluate_refusal, answer, forget_refusal, removed, convert_refusal, converted};
 ghost use Rattle.operations.specs.Primitive.{primitive};
@@ -30,6 +31,7 @@ use walk::accumulate::{Visitor, accumulate};
 
 /// A value and a mark for each kept group, in lent memory, under an operation: the accumulator of the primitive and the
 /// boolean kinds, which differ in how the items of rows and answers are packed.
+// Values and marks lie side by side, as the memory is lent.
 #[derive(Drop)]
 pub struct OpGroupsAccumulator<'m, T, O, L> {
     pub(crate) values: &'m mut [T],
