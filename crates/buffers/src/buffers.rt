@@ -12,7 +12,7 @@ use crate::writable::Writable;
 use columnar::column::FlatColumn;
 use columnar::filter::Filter;
 use columnar::items::{Items, Mask};
-use columnar::packing::{Packed, Plain};
+use columnar::packing::{Packed, Packing, Plain};
 use columnar::rows::{FlatRows, Rows};
 use std::marker::PhantomData;
 
@@ -98,7 +98,7 @@ fn has_room(figures: usize, places: usize, bits: usize, bytes: usize, masked: bo
 /// Buffers for a figure a row and a mask, over lent memory: how long the answer in them is, and whether it has a mask.
 // The memory is lent and may be longer than the answer, so that its length, and whether the mask is of it, stand beside it.
 #[derive(Drop)]
-pub struct ColumnBuffers<'b, L: Writable> {
+pub struct ColumnBuffers<'b, L: Packing> {
     pub values: &'b mut [L::Slot],
     pub bits: &'b mut [u8],
     pub len: usize,
@@ -113,7 +113,7 @@ pub type PrimitiveBuffers<'b, T> = ColumnBuffers<'b, Plain<T>>;
 /// Buffers for packed booleans and a mask.
 pub type BooleanBuffers<'b> = ColumnBuffers<'b, Packed>;
 
-impl<'b, L: Writable> Buffers<L::Item> for ColumnBuffers<'b, L> {
+impl<'b, L: Packing> Buffers<L::Item> for ColumnBuffers<'b, L> {
     ghost Memory = { Laid L.Slot };
 
     ghost memory = { λ b. record { figures = b.values.now; bits = b.bits.now; rows = b.len; masked = b.masked } };
@@ -126,9 +126,9 @@ impl<'b, L: Writable> Buffers<L::Item> for ColumnBuffers<'b, L> {
 
     ghost figures = { stored_slots L.laid };
 
-    ghost held = { held_items L.Packing.items };
+    ghost held = { held_items L.items };
 
-    ghost readable = { readable_items L.Packing.holds L.Packing.items };
+    ghost readable = { readable_items L.holds L.items };
 }
 
 /// The number of rows, or 0 where so many cannot be read back: one would lack its figure or, under a mask, its bit.
@@ -153,7 +153,7 @@ fn write_mask<M: Source<bool>>(bits: &mut [u8], marks: &M, n: usize, masked: boo
     }
 }
 
-impl<'b, L: Writable> ColumnBuffers<'b, L> {
+impl<'b, L: Packing> ColumnBuffers<'b, L> {
     /// Buffers over the lent memory, with no answer in them yet.
     pub fn new(values: &'b mut [L::Slot], bits: &'b mut [u8]) -> ColumnBuffers<'b, L>
         ensures values { result.values.now ≡ values.old }
@@ -169,7 +169,9 @@ impl<'b, L: Writable> ColumnBuffers<'b, L> {
             packing: PhantomData,
         }
     }
+}
 
+impl<'b, L: Writable> ColumnBuffers<'b, L> {
     /// The column that lies in the buffers: what an answer has left in them, or no rows where they cannot be read.
     pub fn column(&self) -> FlatColumn<'_, L>
         ensures { rows_of result ≡ cells (readable_items L.Packing.holds L.Packing.items (record { figures = self.now.values.now; bits = self.now.bits.now; rows = self.now.len; masked = self.now.masked })) }
@@ -199,7 +201,10 @@ impl<'b, L: Writable> ColumnBuffers<'b, L> {
     }
 }
 
-impl<'b, L: Writable> FlatBuffers<L::Item> for ColumnBuffers<'b, L> {
+impl<'b, L: Writable> FlatBuffers<L::Item> for ColumnBuffers<'b, L>
+where
+    L::Item: Copy,
+{
     fn fits(&self, rows: usize, masked: bool) -> bool {
         has_room(
             self.values.len(),

@@ -2,7 +2,7 @@ ghost use Rattle.std.specs.Prelude.{◌≡◌, ◌<◌, List, length, slice_inde
 ghost use Rattle.columnar.specs.Columns.{items_of};
 
 use columnar::items::Items;
-use columnar::packing::Packing;
+use columnar::packing::Readable;
 
 /// Items read by place, to write an answer from.
 // A trait and no closure: that the items are a list is a ghost member, which each clause names in place of a premise.
@@ -15,7 +15,7 @@ pub trait Source<X> {
 }
 
 /// Lent items, by place.
-impl<'a, L: Packing> Source<L::Item> for Items<'a, L> {
+impl<'a, L: Readable> Source<L::Item> for Items<'a, L> {
     ghost items = { items_of };
 
     fn get(&self, j: usize) -> L::Item {

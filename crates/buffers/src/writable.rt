@@ -5,18 +5,12 @@ ghost use Rattle.buffers.specs.Memory.{front};
 use crate::front::write_front;
 use crate::pack::{bytes_for, write_bits};
 use crate::source::Source;
-use columnar::packing::{Packed, Packing, Plain};
+use columnar::packing::{Packed, Plain, Readable};
 
 /// A packing into whose slots an answer is written.
-pub trait Writable: Packing {
-    /// How many slots so many rows take.
-    ghost places: { ℕ → ℕ };
-
-    /// The slots of items, from the first place on.
-    ghost laid: { List Self.Item → List Self.Slot };
-
+pub trait Writable: Readable {
     fn places(rows: usize) -> usize
-        ensures { result ≡ places rows };
+        ensures { result ≡ Self.Packing.places rows };
 
     /// Whether so many slots hold fewer than so many rows.
     fn lacks(slots: usize, rows: usize) -> bool
@@ -25,15 +19,11 @@ pub trait Writable: Packing {
     /// Writes the first n items to the front; the slots past them stay.
     fn write<S: Source<Self::Item>>(slots: &mut [Self::Slot], items: &S, n: usize)
         requires within { n ≤ length (S.Source.items items.now) }
-        requires room { places n ≤ length slots.old }
-        ensures { slots.new ≡ front (laid (take n (S.Source.items items.now))) slots.old };
+        requires room { Self.Packing.places n ≤ length slots.old }
+        ensures { slots.new ≡ front (Self.Packing.laid (take n (S.Source.items items.now))) slots.old };
 }
 
 impl<T: Copy> Writable for Plain<T> {
-    ghost places = { λ n. n };
-
-    ghost laid = { λ xs. xs };
-
     fn places(rows: usize) -> usize {
         rows
     }
@@ -48,10 +38,6 @@ impl<T: Copy> Writable for Plain<T> {
 }
 
 impl Writable for Packed {
-    ghost places = { bytes_for };
-
-    ghost laid = { packed };
-
     fn places(rows: usize) -> usize {
         bytes_for(rows)
     }

@@ -8,7 +8,7 @@ ghost use Rattle.columnar.specs.Rows.{column_cells};
 ghost use Rattle.columnar.specs.Views.{cells_under};
 
 use crate::items::{Items, Mask};
-use crate::packing::{Packed, Packing, Plain};
+use crate::packing::{Packed, Packing, Plain, Readable};
 use crate::refusal::Refusal;
 use crate::rows::{FlatRows, Rows};
 use crate::validity::Validity;
@@ -43,7 +43,7 @@ pub type PrimitiveColumn<'a, T> = FlatColumn<'a, Plain<T>>;
 /// Packed booleans, lent.
 pub type BooleanColumn<'a> = FlatColumn<'a, Packed>;
 
-impl<'a, L: Packing> FlatColumn<'a, L> {
+impl<'a, L: Readable> FlatColumn<'a, L> {
     ghost use Rattle.columnar.specs.Columns.{items_of, rows_of};
 
     /// A column without a mask.
@@ -84,7 +84,7 @@ impl<'a, L: Packing> FlatColumn<'a, L> {
     }
 }
 
-impl<'a, L: Packing> Rows<L::Item> for FlatColumn<'a, L> {
+impl<'a, L: Readable> Rows<L::Item> for FlatColumn<'a, L> {
     ghost use Rattle.columnar.specs.Columns.{rows_of};
 
     ghost cells = { rows_of };
@@ -98,7 +98,7 @@ impl<'a, L: Packing> Rows<L::Item> for FlatColumn<'a, L> {
     }
 }
 
-impl<'a, L: Packing> FlatRows<L::Item> for FlatColumn<'a, L> {
+impl<'a, L: Readable> FlatRows<L::Item> for FlatColumn<'a, L> {
     fn read(&self, j: usize) -> Option<L::Item> {
         if self.validity.valid(j) {
             return Some(self.values.get(j));

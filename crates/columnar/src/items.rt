@@ -4,7 +4,7 @@ ghost use Rattle.std.specs.Result.{result_err};
 ghost use Rattle.columnar.specs.Packed.{unpacked};
 ghost use Rattle.columnar.specs.Refusals.{bits_refusal};
 
-use crate::packing::{Packed, Packing, Plain};
+use crate::packing::{Packed, Packing, Plain, Readable};
 use crate::refusal::Refusal;
 use std::alloc::AllocError;
 
@@ -54,7 +54,7 @@ impl<'a> Items<'a, Packed> {
 }
 
 /// All of a slice.
-impl<'a, T: Copy> From<&'a [T]> for Items<'a, Plain<T>> {
+impl<'a, T> From<&'a [T]> for Items<'a, Plain<T>> {
     ghost from_gives = { λ xs v. (v.slots.now ≡ xs.now) × ((v.start ≡ 0) × (v.len ≡ length xs.now)) };
 
     fn from(values: &'a [T]) -> Items<'a, Plain<T>> {
@@ -67,14 +67,16 @@ impl<'a, T: Copy> From<&'a [T]> for Items<'a, Plain<T>> {
 }
 
 impl<'a, L: Packing> Items<'a, L> {
-    ghost use Rattle.columnar.specs.Columns.{items_of};
-
     /// The number of rows.
     pub fn len(&self) -> usize
         ensures { result ≡ self.now.len }
     {
         self.len
     }
+}
+
+impl<'a, L: Readable> Items<'a, L> {
+    ghost use Rattle.columnar.specs.Columns.{items_of};
 
     /// Item j, of those that there are.
     pub fn get(&self, j: usize) -> L::Item

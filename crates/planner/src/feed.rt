@@ -31,8 +31,8 @@ pub struct Memory<L: Writable> {
 
 impl<L: Writable> Memory<L>
 where
-    L::Item: Drop,
-    L::Slot: Default + Drop,
+    L::Item: Copy,
+    L::Slot: Clone + Default + Drop,
 {
     /// For so many groups.
     pub fn new(heap: Global, start: L::Item, groups: usize) -> Result<Memory<L>, AllocError> {
@@ -45,7 +45,10 @@ where
     }
 }
 
-impl<L: Writable> Memory<L> {
+impl<L: Writable> Memory<L>
+where
+    L::Item: Copy,
+{
     /// An accumulator of no groups in this memory, and buffers for its answers.
     pub fn lend<O: Operation<L::Item>>(
         &mut self,
@@ -71,7 +74,8 @@ pub fn feed<'a, L: Writable, T: GroupsAccumulator<'a, Values = FlatColumn<'a, L>
     turn: Turn,
 ) -> Result<(), Refusal>
 where
-    L::Slot: Default + Drop,
+    L::Item: Copy,
+    L::Slot: Clone + Default + Drop,
     requires { T.GroupsAccumulator.sound acc.old }
     ensures { T.GroupsAccumulator.sound acc.new }
 {
@@ -84,7 +88,10 @@ where
 fn take_answer<'a, L: Writable>(
     out: &ColumnBuffers<'a, L>,
     shown: &mut Vec<Option<L::Item>>,
-) -> Result<(), Fault> {
+) -> Result<(), Fault>
+where
+    L::Item: Copy,
+{
     let column = out.column();
     shown.extend((0..column.len()).filter_map(|j| column.row(j)))?;
     Ok(())
@@ -97,6 +104,8 @@ pub fn close<'a, L: Writable, T: GroupsAccumulator<'a, Answers = ColumnBuffers<'
     out: &mut ColumnBuffers<'a, L>,
     shown: &mut Vec<Option<L::Item>>,
 ) -> Result<(), Fault>
+where
+    L::Item: Copy,
     requires { T.GroupsAccumulator.sound acc.old }
     ensures { T.GroupsAccumulator.sound acc.new }
 {
@@ -114,8 +123,8 @@ pub fn lead_with<L: Writable, O: Operation<L::Item> + Drop, F: Fn(&Row) -> Optio
     plan: &mut Plan,
 ) -> Result<Vec<Option<L::Item>>, Fault>
 where
-    L::Item: Drop,
-    L::Slot: Default + Drop,
+    L::Item: Copy,
+    L::Slot: Clone + Default + Drop,
     requires { F.IsAlwaysCallable cell }
 {
     let start = O::starting_value();
@@ -145,8 +154,8 @@ pub fn follow_with<L: Writable, O: Operation<L::Item> + Drop, F: Fn(&Row) -> Opt
     plan: &Plan,
 ) -> Result<Vec<Option<L::Item>>, Fault>
 where
-    L::Item: Drop,
-    L::Slot: Default + Drop,
+    L::Item: Copy,
+    L::Slot: Clone + Default + Drop,
     requires { F.IsAlwaysCallable cell }
 {
     let start = O::starting_value();

@@ -20,7 +20,8 @@ pub type Ticks = Series<Packed>;
 
 fn pack_items<L: Writable>(heap: Global, items: &[L::Item]) -> Result<Vec<L::Slot>, AllocError>
 where
-    L::Slot: Default + Drop,
+    L::Item: Copy,
+    L::Slot: Clone + Default + Drop,
 {
     let n = items.len();
     let mut slots = vec![in heap; L::Slot::default(); L::places(n)]?;
@@ -30,7 +31,8 @@ where
 
 impl<L: Writable> Series<L>
 where
-    L::Slot: Default + Drop,
+    L::Item: Copy,
+    L::Slot: Clone + Default + Drop,
 {
     /// What each row has in a cell of its own.
     pub fn pack<F: Fn(&Row) -> Option<L::Item>>(

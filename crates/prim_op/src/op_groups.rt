@@ -16,7 +16,6 @@ use buffers::buffers::{Buffers, ColumnBuffers, FlatBuffers};
 use buffers::writable::Writable;
 use columnar::column::FlatColumn;
 use columnar::filter::Filter;
-use columnar::packing::Packing;
 use columnar::refusal::Refusal;
 use columnar::rows::{FlatRows, Rows};
 use groups::checks::Batch;

@@ -9,7 +9,7 @@ ghost use Rattle.walk.specs.Visits.{visits, told_all, Tests};
 use columnar::column::{BooleanColumn, FlatColumn};
 use columnar::filter::{Filter, passes};
 use columnar::items::Items;
-use columnar::packing::Packing;
+use columnar::packing::Readable;
 
 /// What a walk tells of each row that counts: a model, and what one visit makes of it.
 pub trait Visitor<T> {
@@ -34,7 +34,7 @@ pub trait Visitor<T> {
 
 /// The one rule of every walk: tells the visitor the group and the value of each row that is valid and passes, by tests of
 /// its number, in ascending order.
-fn walk<L: Packing, P: Fn(usize) -> bool, Q: Fn(usize) -> bool, V: Visitor<L::Item>>(
+fn walk<L: Readable, P: Fn(usize) -> bool, Q: Fn(usize) -> bool, V: Visitor<L::Item>>(
     group_indices: &[usize],
     values: &Items<'_, L>,
     valid: P,
@@ -57,7 +57,7 @@ fn walk<L: Packing, P: Fn(usize) -> bool, Q: Fn(usize) -> bool, V: Visitor<L::It
 }
 
 /// Tells the visitor the group and the value of each valid row that the filter lets through, in ascending order.
-pub fn accumulate<L: Packing, V: Visitor<L::Item>>(
+pub fn accumulate<L: Readable, V: Visitor<L::Item>>(
     group_indices: &[usize],
     values: &FlatColumn<'_, L>,
     opt_filter: &Filter<'_>,

@@ -8,34 +8,34 @@ use Rattle.walk.proofs.accumulate.accumulate.Goals as goal
 pub walk-requires-clause-even : goal.walk-requires-clause-even
 walk-requires-clause-even g c =
     let v = c.args.values.now.values in
-    c.requires.even ∙ sym (length_cells _ v.len (g.met.L.Packing.counts v.slots.now v.start v.len v.fits) _)
+    c.requires.even ∙ sym (length_cells _ v.len (g.met.L.Readable.counts v.slots.now v.start v.len v.fits) _)
 
 pub walk-requires-in_default-None-2-clause-even : goal.walk-requires-in_default-None-2-clause-even
 walk-requires-in_default-None-2-clause-even g c =
     let v = c.args.values.now.values in
-    c.requires.even ∙ sym (length_cells _ v.len (g.met.L.Packing.counts v.slots.now v.start v.len v.fits) _)
+    c.requires.even ∙ sym (length_cells _ v.len (g.met.L.Readable.counts v.slots.now v.start v.len v.fits) _)
 
 pub walk-requires-in_default-Some-clause-even : goal.walk-requires-in_default-Some-clause-even
 walk-requires-in_default-Some-clause-even g c =
     let v = c.args.values.now.values in
-    c.requires.even ∙ sym (length_cells _ v.len (g.met.L.Packing.counts v.slots.now v.start v.len v.fits) _)
+    c.requires.even ∙ sym (length_cells _ v.len (g.met.L.Readable.counts v.slots.now v.start v.len v.fits) _)
 
 pub walk-requires-in_default-Some-2-clause-even : goal.walk-requires-in_default-Some-2-clause-even
 walk-requires-in_default-Some-2-clause-even g c =
     let v = c.args.values.now.values in
-    c.requires.even ∙ sym (length_cells _ v.len (g.met.L.Packing.counts v.slots.now v.start v.len v.fits) _)
+    c.requires.even ∙ sym (length_cells _ v.len (g.met.L.Readable.counts v.slots.now v.start v.len v.fits) _)
 
 pub walk-requires-in_default-None-2-clause-valid : goal.walk-requires-in_default-None-2-clause-valid
 walk-requires-in_default-None-2-clause-valid g c j h _ _ _ _ _ =
     let k = c.args.values.now in
     let v = k.values in
-    omega (arith, h, c.requires.even, length_cells _ v.len (g.met.L.Packing.counts v.slots.now v.start v.len v.fits) (valid_at (option_map (λ x. x.now) k.validity.mask) k.validity.start), k.even)
+    omega (arith, h, c.requires.even, length_cells _ v.len (g.met.L.Readable.counts v.slots.now v.start v.len v.fits) (valid_at (option_map (λ x. x.now) k.validity.mask) k.validity.start), k.even)
 
 pub walk-requires-in_default-Some-2-clause-valid : goal.walk-requires-in_default-Some-2-clause-valid
 walk-requires-in_default-Some-2-clause-valid g c j h _ _ _ _ _ =
     let k = c.args.values.now in
     let v = k.values in
-    omega (arith, h, c.requires.even, length_cells _ v.len (g.met.L.Packing.counts v.slots.now v.start v.len v.fits) (valid_at (option_map (λ x. x.now) k.validity.mask) k.validity.start), k.even)
+    omega (arith, h, c.requires.even, length_cells _ v.len (g.met.L.Readable.counts v.slots.now v.start v.len v.fits) (valid_at (option_map (λ x. x.now) k.validity.mask) k.validity.start), k.even)
 
 pub walk-requires-in_default-Some-clause-passes : goal.walk-requires-in_default-Some-clause-passes
 walk-requires-in_default-Some-clause-passes g c j h _ _ _ _ _ _ _ _ =

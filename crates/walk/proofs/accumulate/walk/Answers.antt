@@ -13,7 +13,7 @@ pub loop-j-preserved : goal.loop-j-preserved
 loop-j-preserved g c =
     let v = g.V.Visitor in
     let xs = c.args.values.now in
-    let count = g.met.L.Packing.counts xs.slots.now xs.start xs.len xs.fits in
+    let count = g.met.L.Readable.counts xs.slots.now xs.start xs.len xs.fits in
     elim c.if-valid.branch [
       | then-valid+then-passes w ↦ (
         search rules,

@@ -7,4 +7,4 @@ returns g c = λ col shaped.
     let s = c.args.self.now in
     c.has_room.ensures
     ∙ ap₂ (λ k n. not (ltb (length s.values.now) k || ltb (length s.bits.now) (cond c.args.masked n 0))) c.places.ensures c.bytes_for.ensures
-    ∙ ap not (sym (short_is g.L.Writable.places _ col c.args.rows c.args.masked shaped))
+    ∙ ap not (sym (short_is g.L.Packing.places _ col c.args.rows c.args.masked shaped))

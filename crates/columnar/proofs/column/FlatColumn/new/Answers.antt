@@ -5,5 +5,5 @@ use Rattle.columnar.proofs.column.FlatColumn.new.Goals as goal
 pub invariant_of-result-clause-counted : goal.invariant_of-result-clause-counted
 invariant_of-result-clause-counted g c =
     let v = c.args.values in
-    let count = g.met.L.Packing.counts v.slots.now v.start v.len v.fits in
+    let count = g.met.L.Readable.counts v.slots.now v.start v.len v.fits in
     c.count_nulls.ensures ∙ nulls_cells _ _ (count ∙ sym c.if-mask-values.false ∙ sym c.from-validity.ensures.1.1) _
