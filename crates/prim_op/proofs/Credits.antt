@@ -1,14 +1,12 @@
 -- Visits as they change the memory, and as they change the credits.
-use Rattle.std.proofs.Common.{◌≡◌, ℕ, zero, suc, Bool, true, false, cond, ◌&&◌, List, [], ◌∷◌, map, get_or, set, Some, None, Option, sym, refl, ap, ◌∙◌, arith}
+use Rattle.std.proofs.Common.{◌≡◌, ℕ, zero, suc, Bool, true, false, cond, ◌&&◌, List, [], ◌∷◌, map, get_or, set, Some, None, Option, sym, refl, ap, ◌∙◌}
 use Rattle.std.specs.List.{AllByRecursion}
+use Rattle.std.proofs.lemmas.Bool.{true≢false}
 use Rattle.columnar.specs.Cells.{Cell, seen}
 use Rattle.groups.specs.Lists.{change, deal}
 use Rattle.groups.specs.Tally.{admitted}
 use Rattle.walk.specs.Visits.{visits}
 use Rattle.prim_op.specs.Kept.{credits_of, Unset, marked_at, combined_at}
-
-clash : true ≡ false → ⊥
-clash e = let z : ◌≡◌ {A = ℕ} 0 1 = cc in omega arith
 
 module _ {E : Type 0} (start : E) (rule : E → E → E) (join : Option E → Option E → Option E) (none : (b : Option E) → join None b ≡ b) (some : (x y : E) → join (Some x) (Some y) ≡ Some (rule x y)) where
   -- one visit
@@ -27,7 +25,7 @@ module _ {E : Type 0} (start : E) (rule : E → E → E) (join : Option E → Op
   unset_step [] vs k y h = tt
   unset_step (m ∷ ms) [] zero y h = tt
   unset_step (m ∷ ms) [] (suc k) y h = tt
-  unset_step (m ∷ ms) (v ∷ vs) zero y h = ((λ e. absurd (clash e)), h.1)
+  unset_step (m ∷ ms) (v ∷ vs) zero y h = ((λ e. absurd (true≢false e)), h.1)
   unset_step (m ∷ ms) (v ∷ vs) (suc k) y h = (h.0, unset_step ms vs k y h.1)
 
   -- all visits

@@ -1,12 +1,19 @@
 -- What an accumulator under an operation means, and how its memory lies.
 --
+--     kind_of o         the primitive kind of an operation
 --     meaning_of s      a credit for each kept group, the switch and the limits; it keeps no pairs
 --     Sound start s     the kept groups and the limit lie within the memory, and unmarked groups have the start value
 use Rattle.std.specs.Prelude.{◌≤◌, Bool, not, List, length, take, Option}
+use Rattle.groups.specs.Kind.{Kind}
 use Rattle.groups.specs.Tally.{Meaning}
+use Rattle.operations.specs.declared.operation.Operation as operation
+use Rattle.operations.specs.Primitive.{primitive}
 use Rattle.groups.specs.Seen.{is_plain, kept_marks}
 use Rattle.prim_op.specs.declared.op_groups.OpGroupsAccumulator.{OpGroupsAccumulator}
 use Rattle.prim_op.specs.Kept.{credits_of, Unset}
+
+abbrev pub kind_of : {O E : Type 0} → operation.Ghosts O E → Kind E E E
+kind_of o = primitive o.start o.rule
 
 module _ {E O L : Type 0} where
   -- the marks in force, and the values, of the kept groups

@@ -8,9 +8,8 @@ ghost use Rattle.buffers.specs.Places.{places};
 ghost use Rattle.groups.specs.Handing.{HandsOut};
 ghost use Rattle.groups.specs.Limits.{cap};
 ghost use Rattle.groups.specs.Tally.{fresh, unless, update_refusal, updated, merge_refusal, merged, evaluate_refusal, answer, forget_refusal, removed, convert_refusal, converted};
-ghost use Rattle.operations.specs.Primitive.{primitive};
 ghost use Rattle.operations.proofs.Credits.{primitive_laws};
-ghost use Rattle.prim_op.specs.Means.{marks_of, values_of, meaning_of, Sound};
+ghost use Rattle.prim_op.specs.Means.{marks_of, values_of, kind_of, meaning_of, Sound};
 
 use buffers::buffers::{Buffers, ColumnBuffers, FlatBuffers};
 use buffers::writable::Writable;
@@ -51,7 +50,7 @@ impl<'m, T: Copy, O: Operation<T>, L> OpGroupsAccumulator<'m, T, O, L> {
         max_groups: usize,
     ) -> OpGroupsAccumulator<'m, T, O, L>
         ensures sound { Sound O.Operation.start result }
-        ensures fresh { meaning_of result ≡ fresh (primitive O.Operation.start O.Operation.rule) (record { rows = min max_rows cap; groups = min (min max_groups cap) (min (length values.old) (length marks.old)); pairs = 0 }) }
+        ensures fresh { meaning_of result ≡ fresh (kind_of O.Operation) (record { rows = min max_rows cap; groups = min (min max_groups cap) (min (length values.old) (length marks.old)); pairs = 0 }) }
     {
         let limits = BatchLimits {
             rows: max_rows.min(MOST),
@@ -116,8 +115,8 @@ impl<'m, T: Copy, O: Operation<T>, L: Writable<Item = T>> OpGroupsAccumulator<'m
     ) -> Result<(), Refusal>
         requires { Sound O.Operation.start self.old }
         ensures stays { Sound O.Operation.start self.new }
-        ensures answer { result_err result ≡ update_refusal (primitive O.Operation.start O.Operation.rule) (meaning_of self.old) (rows_of values.now) (ticks opt_filter.now) group_indices.now total }
-        ensures after { meaning_of self.new ≡ unless (result_err result) (meaning_of self.old) (updated (primitive O.Operation.start O.Operation.rule) (meaning_of self.old) (rows_of values.now) (ticks opt_filter.now) group_indices.now total) }
+        ensures answer { result_err result ≡ update_refusal (kind_of O.Operation) (meaning_of self.old) (rows_of values.now) (ticks opt_filter.now) group_indices.now total }
+        ensures after { meaning_of self.new ≡ unless (result_err result) (meaning_of self.old) (updated (kind_of O.Operation) (meaning_of self.old) (rows_of values.now) (ticks opt_filter.now) group_indices.now total) }
     {
         let kept = self.null_state.kept;
         let limits = self.limits;
@@ -141,8 +140,8 @@ impl<'m, T: Copy, O: Operation<T>, L: Writable<Item = T>> OpGroupsAccumulator<'m
         out: &mut B,
     ) -> Result<(), Refusal>
         requires { Sound O.Operation.start self.now }
-        ensures answer { result_err result ≡ evaluate_refusal (primitive O.Operation.start O.Operation.rule) B.Buffers.layout (meaning_of self.now) emit_to (places B.Buffers out.old) }
-        ensures written { HandsOut B.Buffers (result_err result) (answer (primitive O.Operation.start O.Operation.rule) (meaning_of self.now) emit_to) out.old out.new }
+        ensures answer { result_err result ≡ evaluate_refusal (kind_of O.Operation) B.Buffers.layout (meaning_of self.now) emit_to (places B.Buffers out.old) }
+        ensures written { HandsOut B.Buffers (result_err result) (answer (kind_of O.Operation) (meaning_of self.now) emit_to) out.old out.new }
     {
         let kept = self.null_state.kept;
         let rows = emit_to.count(kept);
@@ -162,7 +161,7 @@ impl<'m, T: Copy, O: Operation<T>, L: Writable<Item = T>> OpGroupsAccumulator<'m
         requires sound { Sound O.Operation.start self.old }
         requires few { count_of emit_to self.old.null_state.kept ≤ self.old.null_state.kept }
         ensures stays { Sound O.Operation.start self.new }
-        ensures after { meaning_of self.new ≡ removed (primitive O.Operation.start O.Operation.rule) (meaning_of self.old) emit_to }
+        ensures after { meaning_of self.new ≡ removed (kind_of O.Operation) (meaning_of self.old) emit_to }
     {
         let kept = self.null_state.kept;
         let rows = emit_to.count(kept);
@@ -178,9 +177,9 @@ impl<'m, T: Copy, O: Operation<T>, L: Writable<Item = T>> OpGroupsAccumulator<'m
     ) -> Result<(), Refusal>
         requires { Sound O.Operation.start self.old }
         ensures stays { Sound O.Operation.start self.new }
-        ensures answer { result_err result ≡ evaluate_refusal (primitive O.Operation.start O.Operation.rule) B.Buffers.layout (meaning_of self.old) emit_to (places B.Buffers out.old) }
-        ensures after { meaning_of self.new ≡ unless (result_err result) (meaning_of self.old) (removed (primitive O.Operation.start O.Operation.rule) (meaning_of self.old) emit_to) }
-        ensures written { HandsOut B.Buffers (result_err result) (answer (primitive O.Operation.start O.Operation.rule) (meaning_of self.old) emit_to) out.old out.new }
+        ensures answer { result_err result ≡ evaluate_refusal (kind_of O.Operation) B.Buffers.layout (meaning_of self.old) emit_to (places B.Buffers out.old) }
+        ensures after { meaning_of self.new ≡ unless (result_err result) (meaning_of self.old) (removed (kind_of O.Operation) (meaning_of self.old) emit_to) }
+        ensures written { HandsOut B.Buffers (result_err result) (answer (kind_of O.Operation) (meaning_of self.old) emit_to) out.old out.new }
     {
         self.show(emit_to, out)?;
         self.remove(emit_to);
@@ -196,8 +195,8 @@ impl<'m, T: Copy, O: Operation<T>, L: Writable<Item = T>> OpGroupsAccumulator<'m
     ) -> Result<(), Refusal>
         requires { Sound O.Operation.start self.old }
         ensures stays { Sound O.Operation.start self.new }
-        ensures answer { result_err result ≡ merge_refusal (primitive O.Operation.start O.Operation.rule) (meaning_of self.old) (rows_of values.now) group_indices.now total }
-        ensures after { meaning_of self.new ≡ unless (result_err result) (meaning_of self.old) (merged (primitive O.Operation.start O.Operation.rule) (meaning_of self.old) (rows_of values.now) group_indices.now total) }
+        ensures answer { result_err result ≡ merge_refusal (kind_of O.Operation) (meaning_of self.old) (rows_of values.now) group_indices.now total }
+        ensures after { meaning_of self.new ≡ unless (result_err result) (meaning_of self.old) (merged (kind_of O.Operation) (meaning_of self.old) (rows_of values.now) group_indices.now total) }
     {
         let none = Filter::none();
         self.update_rows(values, group_indices, &none, total)
@@ -207,8 +206,8 @@ impl<'m, T: Copy, O: Operation<T>, L: Writable<Item = T>> OpGroupsAccumulator<'m
     pub(crate) fn forget_groups(&mut self, emit_to: EmitTo) -> Result<(), Refusal>
         requires { Sound O.Operation.start self.old }
         ensures stays { Sound O.Operation.start self.new }
-        ensures answer { result_err result ≡ forget_refusal (primitive O.Operation.start O.Operation.rule) (meaning_of self.old) emit_to }
-        ensures after { meaning_of self.new ≡ unless (result_err result) (meaning_of self.old) (removed (primitive O.Operation.start O.Operation.rule) (meaning_of self.old) emit_to) }
+        ensures answer { result_err result ≡ forget_refusal (kind_of O.Operation) (meaning_of self.old) emit_to }
+        ensures after { meaning_of self.new ≡ unless (result_err result) (meaning_of self.old) (removed (kind_of O.Operation) (meaning_of self.old) emit_to) }
     {
         let kept = self.null_state.kept;
         if emit_to.count(kept) > kept {
@@ -226,8 +225,8 @@ impl<'m, T: Copy, O: Operation<T>, L: Writable<Item = T>> OpGroupsAccumulator<'m
         opt_filter: &Filter<'_>,
         out: &mut B,
     ) -> Result<(), Refusal>
-        ensures answer { result_err result ≡ convert_refusal (primitive O.Operation.start O.Operation.rule) B.Buffers.layout (meaning_of self.now) (C.Rows.cells values.now) (ticks opt_filter.now) (places B.Buffers out.old) }
-        ensures written { HandsOut B.Buffers (result_err result) (converted (primitive O.Operation.start O.Operation.rule) (C.Rows.cells values.now) (ticks opt_filter.now)) out.old out.new }
+        ensures answer { result_err result ≡ convert_refusal (kind_of O.Operation) B.Buffers.layout (meaning_of self.now) (C.Rows.cells values.now) (ticks opt_filter.now) (places B.Buffers out.old) }
+        ensures written { HandsOut B.Buffers (result_err result) (converted (kind_of O.Operation) (C.Rows.cells values.now) (ticks opt_filter.now)) out.old out.new }
     {
         let rows = values.len();
         if rows > self.limits.rows {
@@ -263,7 +262,7 @@ where
 
     type StateBuffers = ColumnBuffers<'a, L>;
 
-    ghost kind = { primitive O.Operation.start O.Operation.rule };
+    ghost kind = { kind_of O.Operation };
 
     ghost laws = { primitive_laws O.Operation.combines O.Operation.start };
 
