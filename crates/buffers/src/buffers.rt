@@ -89,6 +89,7 @@ pub trait FlatBuffers<X: Copy>: Buffers<X> {
     }
 }
 
+// The flag is the caller's word for the answer, as in the trait.
 fn has_room(figures: usize, places: usize, bits: usize, bytes: usize, masked: bool) -> bool
     ensures { result ≡ not (nat_lt figures places || nat_lt bits (if masked then bytes else 0)) }
 {

@@ -15,7 +15,7 @@ use crate::validity::Validity;
 /// A filter that may not be given: then it has no value bytes, and lets every row through. One that is given lets those
 /// rows through for which it holds a valid yes.
 // A view that says whether it is given, as the project has it, in place of an `Option` of a view: the walk matches on the
-// bytes.
+// bytes. Their start stands beside them, since packed rows begin within a byte.
 #[derive(Clone, Copy)]
 pub struct Filter<'a> {
     pub values: Option<&'a [u8]>,

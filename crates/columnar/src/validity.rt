@@ -7,7 +7,8 @@ use crate::bits::bit;
 use crate::items::Mask;
 
 /// Which of `len` rows are valid: those that the mask, read from bit `start` on, has as valid, or all where there is none.
-// It is the bytes that are optional: by a rule of the project no view with an invariant stands in an `Option`.
+// It is the bytes that are optional: by a rule of the project no view with an invariant stands in an `Option`. A start and a
+// length stand beside them, since a mask begins and ends within a byte.
 #[derive(Clone, Copy)]
 pub struct Validity<'a> {
     pub mask: Option<&'a [u8]>,

@@ -9,6 +9,7 @@ use columnar::refusal::Refusal;
 use std::alloc::{AllocError, Global};
 
 /// The values of rows in their slots, with a filler under a null, and the mask of the rows that are not null.
+// Slots and mask side by side, as the library borrows them.
 #[derive(Drop)]
 pub struct Series<L: Writable> {
     slots: Vec<L::Slot>,

@@ -12,6 +12,7 @@ use columnar::items::Items;
 use columnar::packing::Readable;
 
 /// What a walk tells of each row that counts: a model, and what one visit makes of it.
+// A trait and no closure: the model, and that what is borrowed stays, are its ghost members, which a closure has not.
 pub trait Visitor<T> {
     ghost Model: { Type 0 };
 
