@@ -28,6 +28,7 @@ impl SpanRecord {
         Ok(SpanRecord { least, greatest })
     }
 
+    // This, the greater end and the width are alike in form alone, by three laws.
     /// The lesser of the two numbers.
     fn low(self) -> i64
         ensures { result ≡ (ends_of self).least }

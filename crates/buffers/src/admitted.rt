@@ -7,6 +7,7 @@ use columnar::filter::Filter;
 use columnar::rows::{FlatRows, Rows};
 use std::marker::PhantomData;
 
+// A column and a filter over it stay two parameters, as the Rust has them.
 /// What is seen of row j where the filter lets it through, else null. A filter lets nothing through past its end.
 fn admitted<X, C: FlatRows<X>>(values: &C, opt_filter: &Filter<'_>, j: usize) -> Option<X>
     requires { j < length (C.Rows.cells values.now) }

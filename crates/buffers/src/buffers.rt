@@ -89,7 +89,7 @@ pub trait FlatBuffers<X: Copy>: Buffers<X> {
     }
 }
 
-// The flag is the caller's word for the answer, as in the trait.
+// The flag is the caller's word for the answer, as in the trait, here and in the two functions below.
 fn has_room(figures: usize, places: usize, bits: usize, bytes: usize, masked: bool) -> bool
     ensures { result ≡ not (nat_lt figures places || nat_lt bits (if masked then bytes else 0)) }
 {
@@ -136,8 +136,7 @@ impl<'b, L: Packing> Buffers<L::Item> for ColumnBuffers<'b, L> {
 fn readable_rows(lacking: bool, bytes: usize, masked: bool, rows: usize) -> usize
     ensures { result ≡ (if lacking || (masked && nat_lt (8 * bytes) rows) then 0 else rows) }
 {
-    // Eight times the bytes need not fit a word.
-    if lacking || (masked && rows as u128 > 8 * (bytes as u128)) {
+    if lacking || (masked && Packed::lacks(bytes, rows)) {
         return 0;
     }
     rows

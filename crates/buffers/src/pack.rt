@@ -22,7 +22,7 @@ fn packed_byte<S: Source<bool>>(bits: &S, n: usize, k: usize) -> u8
     let from = 8 * k;
     let width = (n - from).min(8);
     let mut byte: u8 = 0;
-    // The loop's number is the bit's place and its weight: an iterator would have to carry both.
+    // A `fold` would be no plainer: the number is the bit's place and its weight in either.
     for i in 0..width {
         if bits.get(from + i) {
             byte += 1 << i;

@@ -43,6 +43,7 @@ fn mark_named(marks: &mut [bool], group_indices: &[usize], kept: usize)
 }
 
 /// Whether each mark from `from` up to `to` is set.
+// Two numbers, as in `fill_part`.
 fn all_set(marks: &[bool], from: usize, to: usize) -> bool
     requires order { from ≤ to }
     requires within { to ≤ length marks.now }
@@ -93,6 +94,7 @@ impl Batch<'_> {
     }
 
     /// Decides the refusals 5 to 11 of a batch, in their order. Of the marks, those of the kept groups stay.
+    // How many groups are kept is no part of the batch, which does not know it.
     #[tactic(auto, using(crate::proofs::Accepting::accepted))]
     pub fn refuse(
         &self,

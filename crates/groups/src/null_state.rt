@@ -16,7 +16,8 @@ pub enum SeenValues {
 /// How many groups are kept, the switch of their marks, and the marks, one a group, in lent memory: while the switch is
 /// plain they are not read, and each kept group counts as marked.
 // The memory may be longer than the groups that are kept, so that their number stands beside it. That it is no shorter is
-// asked by each call: as an invariant it was tried, and then an accumulator that holds this can lend the marks no more.
+// asked by each call, and that the marks keep their length promised: as an invariant it was tried, and then an accumulator
+// that holds this can lend the marks no more.
 #[derive(Drop)]
 pub struct NullState<'m> {
     pub marks: &'m mut [bool],

@@ -29,7 +29,7 @@ pub trait Bounded: Copy + Ord {
     ghost compares: { (a b : Self) → Self.cmp a b ≡ rank a b };
 }
 
-// One impl for each type: what is alike in them is the type's own constants and its order.
+// One impl for each type: the constants differ, and what is alike, the order, is named and not written out.
 impl Bounded for i32 {
     ghost LEAST = { negsuc (2 ^ 31 - 1) };
 

@@ -28,7 +28,7 @@ pub struct Division {
 }
 
 /// State rows as they were written, and the group that each is merged into.
-// The buffers borrow the memory, so that what they say of the answer is kept beside it.
+// The buffers borrow the memory, so that what they say of the answer is kept beside it, and the groups as a call takes them.
 #[derive(Drop)]
 struct States {
     memory: Memory<Plain<i64>>,
@@ -148,6 +148,7 @@ fn first_other(part: &Part, shown: &[Option<i64>], grams: &[Option<i64>]) -> Opt
 }
 
 /// Divides the day's rows at the middle, and compares what the two parts make together with the undivided day's grams.
+// The heap is a handle of its own, and a plan is made of a day: neither is part of it.
 pub fn divide(
     heap: Global,
     day: &Day,

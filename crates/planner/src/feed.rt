@@ -145,7 +145,8 @@ where
 
 /// Each group's figure, in the order of their opening, by a plan that stands: the batches that were refused are not handed
 /// over.
-// Alike but for its loop, in which no plan is made: the two loops as closures would lend the accumulator through a bound.
+// Alike but for its loop: one function for both would take the loop as a closure over accumulator, buffers and plan, and
+// be no plainer.
 pub fn follow_with<L: Writable, O: Operation<L::Item> + Drop, F: Fn(&Row) -> Option<L::Item>>(
     heap: Global,
     op: O,

@@ -25,6 +25,7 @@ pub struct Figures {
 
 impl Figures {
     /// Feeds one accumulator after another. The first makes the plan, and the others follow it.
+    // The heap is a handle of its own, and a plan is made of a day: neither is part of it.
     pub fn new(heap: Global, day: &Day, plan: &mut Plan) -> Result<Figures, Fault> {
         let rows = day.rows.as_slice();
         let grams = lead_with::<Plain<i64>, _, _>(heap, Sum, rows, |row| row.grams, plan)?;

@@ -19,6 +19,7 @@ pub struct Part {
 
 impl Part {
     /// The day's counted rows among these.
+    // The heap is a handle of its own, and a plan is made of a day: neither is part of it.
     pub fn new(heap: Global, day: &Day, plan: &Plan, rows: Range<usize>) -> Result<Part, Fault> {
         let mut part = Part {
             turns: Vec::new(heap),
@@ -32,6 +33,7 @@ impl Part {
     }
 
     /// Adds a batch of the day's rows, unless it has none.
+    // Its ends are two numbers, as those of a turn.
     fn push(&mut self, day: &Day, from: usize, to: usize) -> Result<(), Fault> {
         if from >= to {
             return Ok(());

@@ -58,6 +58,7 @@ fn group_ends(heap: Global, rows: &[Row]) -> Result<Vec<usize>, AllocError> {
 }
 
 impl Plan {
+    // The heap is a handle of its own, and a plan is made of a day: neither is part of it.
     pub fn new(
         heap: Global,
         day: &Day,

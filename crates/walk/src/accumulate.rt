@@ -35,6 +35,7 @@ pub trait Visitor<T> {
 
 /// The one rule of every walk: tells the visitor the group and the value of each row that is valid and passes, by tests of
 /// its number, in ascending order.
+// What is asked and told of the visitor stands at each function here, in the words of its trait.
 fn walk<L: Readable, P: Fn(usize) -> bool, Q: Fn(usize) -> bool, V: Visitor<L::Item>>(
     group_indices: &[usize],
     values: &Items<'_, L>,
@@ -103,7 +104,7 @@ pub fn accumulate<L: Readable, V: Visitor<L::Item>>(
 }
 
 /// The same over packed booleans.
-// A twin of its own, with its own match: the Rust has both functions, and both names and forms are carried over.
+// A twin of its own and no call of `accumulate`: the Rust has both functions, each with its match, and both are carried over.
 pub fn accumulate_boolean<V: Visitor<bool>>(
     group_indices: &[usize],
     values: &BooleanColumn<'_>,
