@@ -136,6 +136,7 @@ fn print_batches(rt: &HostRuntime, batches: Batches<'_>) -> Result<(), Fault> {
     print_refused(rt, batches)
 }
 
+// The day and the plan stay two: a plan is made of a day, and the figures of both.
 pub fn print_report(
     rt: &HostRuntime,
     day: &Day,
