@@ -1,12 +1,13 @@
 -- Cells by row number: their reads, and the count of the nulls among them.
-use Rattle.std.proofs.Common.{◌≡◌, ℕ, zero, suc, ◌+◌, ◌<◌, ◌≤◌, Bool, true, false, cond, not, List, [], ◌∷◌, length, get_or, Some, None, count_by, Option, sym, refl, ap, ◌∙◌, add-zero, zero-add, arith}
+use Rattle.std.proofs.Common.{◌≡◌, ℕ, zero, suc, ◌+◌, ◌<◌, ◌≤◌, Bool, true, false, cond, not, List, [], ◌∷◌, map, length, get_or, Some, None, count_by, Option, sym, refl, ap, ◌∙◌, add-zero, zero-add, ltb, ⊎_elim, arith}
 use Rattle.std.specs.List.{slice_get, range_with_len}
 use Rattle.std.specs.Option.{option_map}
-use Rattle.std.proofs.lemmas.List.FromFn.{length-map-range_with_len, get_or-map-range_with_len}
+use Rattle.std.proofs.lemmas.List.FromFn.{length-map-range_with_len, get_or-map-range_with_len, sum_by-map-range_with_len_more}
 use Rattle.std.proofs.lemmas.List.Sums.{sum_by-cons}
-use Rattle.std.proofs.lemmas.Option.{slice_get_past}
+use Rattle.std.proofs.lemmas.Bool.{ltb-true, ltb-false, cases_Bool, cond-true, cond-false}
+use Rattle.std.proofs.lemmas.Option.{slice_get_past, slice_get_read}
 use Rattle.columnar.specs.Cells.{Cell, cell, seen, nulls}
-use Rattle.columnar.specs.Packed.{bit_at, unpacked}
+use Rattle.columnar.specs.Packed.{bit_at, bit_row, unpacked}
 use Rattle.columnar.specs.Rows.{valid_at, cells_from, column_cells}
 
 pub length_cells_from : {V : Type 0} (p : ℕ → Bool) (i : ℕ) (xs : List V) → length (cells_from p i xs) ≡ length xs
@@ -82,3 +83,23 @@ length_unpacked bytes start n = length-map-range_with_len (λ j. bit_at bytes (s
 
 pub unpacked_read : (bytes : List ℕ) (start n j : ℕ) (b d : Bool) → j < n → b ≡ bit_at bytes (start + j) → b ≡ get_or (unpacked bytes start n) j d
 unpacked_read bytes start n j b d h e = e ∙ sym (get_or-map-range_with_len (λ k. bit_at bytes (start + k)) 0 n j j d h (zero-add j))
+
+-- one more row in the count of nulls
+pub nulls_more : (mask : Option (List ℕ)) (start n : ℕ) (b : Bool) → valid_at mask start n ≡ b → count_by not (map (valid_at mask start) (range_with_len 0 (n + 1))) ≡ count_by not (map (valid_at mask start) (range_with_len 0 n)) + cond (not b) 1 0
+nulls_more mask start n b e = sum_by-map-range_with_len_more (λ v. cond (not v) 1 0) (valid_at mask start) 0 n n (zero-add n) ∙ rw e
+
+-- a row of unpacked bits is the bit row of the format
+pub bit_row_read : (bytes : List ℕ) (start n j : ℕ) → slice_get (unpacked bytes start n) j ≡ bit_row bytes start n j
+bit_row_read bytes start n j = ⊎_elim within past (cases_Bool (ltb j n))
+  where
+    within : ltb j n ≡ true → slice_get (unpacked bytes start n) j ≡ bit_row bytes start n j
+    within t =
+        let h : j < n = ltb-true j n t in
+        slice_get_read (unpacked bytes start n) n j (bit_at bytes (start + j)) (sym (length_unpacked bytes start n)) h (unpacked_read bytes start n j (bit_at bytes (start + j)) (bit_at bytes (start + j)) h refl)
+        ∙ sym (cond-true (ltb j n) (Some (bit_at bytes (start + j))) None t)
+
+    past : ltb j n ≡ false → slice_get (unpacked bytes start n) j ≡ bit_row bytes start n j
+    past f =
+        let l : n ≤ j = ltb-false j n f in
+        slice_get_past (unpacked bytes start n) j (omega (arith, l, length_unpacked bytes start n))
+        ∙ sym (cond-false (ltb j n) (Some (bit_at bytes (start + j))) None f)

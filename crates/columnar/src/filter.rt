@@ -63,7 +63,15 @@ impl<'a> Filter<'a> {
         ensures refused { result_err result ≡ lengths_refusal mask.entry.len values.entry.len }
         ensures shows { IfOk result (λ f. ticks f ≡ Some (boolean_cells values.entry.slots.now values.entry.start (Some mask.entry.slots.now) mask.entry.start values.entry.len)) }
     {
-        Ok(Filter::from(BooleanColumn::new(values, mask)?))
+        // By hand and not of a boolean column, whose making counts its nulls: a filter needs no count.
+        if mask.len != values.len {
+            return Err(Refusal::MaskLength);
+        }
+        Ok(Filter {
+            values: Some(values.slots),
+            start: values.start,
+            validity: Validity::from(mask),
+        })
     }
 
     /// Whether a filter is given.

@@ -1,7 +1,7 @@
 ghost use Rattle.std.specs.Prelude.{◌≡◌, ◌+◌, ◌*◌, ◌<◌, ◌≤◌, length, ⊤, slice_index_or, OnOk, IfOk};
 ghost use Rattle.std.specs.List.{slice_get};
 ghost use Rattle.std.specs.Result.{result_err};
-ghost use Rattle.columnar.specs.Packed.{unpacked};
+ghost use Rattle.columnar.specs.Packed.{bit_row, unpacked};
 ghost use Rattle.columnar.specs.Refusals.{bits_refusal};
 
 use crate::packing::{Packed, Packing, Plain, Readable};
@@ -50,6 +50,13 @@ impl<'a> Items<'a, Packed> {
             start,
             len,
         })
+    }
+
+    /// Row j as a bit of the bytes, absent past the end: what `row` answers, in the words of the format.
+    pub fn bit(&self, j: usize) -> Option<bool>
+        ensures { result ≡ bit_row self.now.slots.now self.now.start self.now.len j }
+    {
+        self.row(j)
     }
 }
 
