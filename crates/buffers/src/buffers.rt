@@ -1,7 +1,8 @@
 ghost use Rattle.std.specs.Prelude.{◌≡◌, ℕ, ◌*◌, ◌≤◌, Bool, false, not, ◌&&◌, ◌||◌, List, length, take, if◌then◌else◌, Some, None, Option, nat_lt};
 ghost use Rattle.columnar.specs.Cells.{Column, cells, passes, kept_rows};
 ghost use Rattle.columnar.specs.Packed.{bytes_for};
-ghost use Rattle.buffers.specs.Memory.{Laid, Room, Layout, flat_layout, stored_mask, stored_slots, flat_column, stored, mask_after, Shaped, short, held_items, readable_items, room_of};
+ghost use Rattle.buffers.specs.Memory.{Laid, Room, Layout, flat_layout, stored_mask, values_layout, packed_layout, stored_slots, stored_values, stored_packed, flat_column, stored, mask_after, Shaped, short, held_items, held_values, held_packed, readable_items, readable_values, readable_packed, room_of};
+ghost use Rattle.buffers.specs.ReadBack.{LaidAs};
 ghost use Rattle.columnar.specs.Columns.{rows_of};
 ghost use Rattle.columnar.specs.Views.{ticks};
 
@@ -131,6 +132,16 @@ impl<'b, L: Packing> Buffers<L::Item> for ColumnBuffers<'b, L> {
 
     ghost readable = { readable_items L.holds L.items };
 }
+
+/// States that buffers of values have room, are written and are read as the words for values say.
+pub fn values_lie<'b, T: 'b>()
+    ensures { LaidAs ⟦<ColumnBuffers<'b, Plain<T>> as Buffers<T>>⟧.layout ⟦<ColumnBuffers<'b, Plain<T>> as Buffers<T>>⟧.figures ⟦<ColumnBuffers<'b, Plain<T>> as Buffers<T>>⟧.held ⟦<ColumnBuffers<'b, Plain<T>> as Buffers<T>>⟧.readable values_layout stored_values held_values readable_values }
+{}
+
+/// The same of packed booleans.
+pub fn booleans_lie<'b>()
+    ensures { LaidAs ⟦<ColumnBuffers<'b, Packed> as Buffers<bool>>⟧.layout ⟦<ColumnBuffers<'b, Packed> as Buffers<bool>>⟧.figures ⟦<ColumnBuffers<'b, Packed> as Buffers<bool>>⟧.held ⟦<ColumnBuffers<'b, Packed> as Buffers<bool>>⟧.readable packed_layout stored_packed held_packed readable_packed }
+{}
 
 /// The number of rows, or 0 where so many cannot be read back: one would lack its figure or, under a mask, its bit.
 fn readable_rows(lacking: bool, bytes: usize, masked: bool, rows: usize) -> usize
