@@ -73,31 +73,32 @@ pub fn accumulate<L: Readable, V: Visitor<L::Item>>(
     ensures fits { All (λ v. V.Visitor.fit v.1) (visits group_indices.now (rows_of values.now) (let_through (ticks opt_filter.now) (length group_indices.now))) }
 {
     // One match over the four cases, as the Rust has it, which picks the two tests of the one walk.
-    let items = &values.values;
-    let validity = &values.validity;
+    // Copies, which a visit cannot change: what lies behind a reference would be read anew for each row.
+    let items = values.values;
+    let validity = values.validity;
     let at = opt_filter.start;
-    let known = &opt_filter.validity;
+    let known = opt_filter.validity;
     match (values.nulls, opt_filter.values) {
-        (n, None) if n == 0 => walk(group_indices, items, |_| true, |_| true, visitor),
+        (n, None) if n == 0 => walk(group_indices, &items, |_| true, |_| true, visitor),
         (_, None) => walk(
             group_indices,
-            items,
+            &items,
             |j| validity.valid(j),
             |_| true,
             visitor,
         ),
         (n, Some(yes)) if n == 0 => walk(
             group_indices,
-            items,
+            &items,
             |_| true,
-            |j| passes(yes, at, known, j),
+            |j| passes(yes, at, &known, j),
             visitor,
         ),
         (_, Some(yes)) => walk(
             group_indices,
-            items,
+            &items,
             |j| validity.valid(j),
-            |j| passes(yes, at, known, j),
+            |j| passes(yes, at, &known, j),
             visitor,
         ),
     }
@@ -118,25 +119,25 @@ pub fn accumulate_boolean<V: Visitor<bool>>(
     ensures same { V.Visitor.fixed visitor.new ≡ V.Visitor.fixed visitor.old }
     ensures fits { All (λ v. V.Visitor.fit v.1) (visits group_indices.now (rows_of values.now) (let_through (ticks opt_filter.now) (length group_indices.now))) }
 {
-    let bits = &values.values;
-    let known = &values.validity;
+    let bits = values.values;
+    let known = values.validity;
     let at = opt_filter.start;
-    let ticked = &opt_filter.validity;
+    let ticked = opt_filter.validity;
     match (values.nulls, opt_filter.values) {
-        (n, None) if n == 0 => walk(group_indices, bits, |_| true, |_| true, visitor),
-        (_, None) => walk(group_indices, bits, |j| known.valid(j), |_| true, visitor),
+        (n, None) if n == 0 => walk(group_indices, &bits, |_| true, |_| true, visitor),
+        (_, None) => walk(group_indices, &bits, |j| known.valid(j), |_| true, visitor),
         (n, Some(yes)) if n == 0 => walk(
             group_indices,
-            bits,
+            &bits,
             |_| true,
-            |j| passes(yes, at, ticked, j),
+            |j| passes(yes, at, &ticked, j),
             visitor,
         ),
         (_, Some(yes)) => walk(
             group_indices,
-            bits,
+            &bits,
             |j| known.valid(j),
-            |j| passes(yes, at, ticked, j),
+            |j| passes(yes, at, &ticked, j),
             visitor,
         ),
     }

@@ -1,3 +1,4 @@
 #![tactic(auto)]
 
 pub mod accumulate;
+pub mod columns;
