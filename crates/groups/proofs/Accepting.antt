@@ -17,6 +17,32 @@ all_below_lem : (total : ℕ) (gs : List ℕ) → all_below total gs ≡ true �
 all_below_lem total [] h = tt
 all_below_lem total (g ∷ gs) h = let s = and_parts (ltb g total) (all_below total gs) h in (ltb-true g total s.0, all_below_lem total gs s.1)
 
+-- the first six conditions in line, and what comes after them
+abbrev pub six : Bool → Bool → Bool → Bool → Bool → Bool → Option Refusal → Option Refusal
+six a b c d e f o =
+    cond a (Some TooManyRows) (cond b (Some IndexCount) (cond c (Some FilterLength) (cond d (Some TotalBelowKept) (cond e (Some TotalAboveLimit) (cond f (Some IndexAboveTotal) o)))))
+
+never : {E : Type 0} {A : Type 0} (r : E) → ◌≡◌ {A = Option E} (Some r) None → A
+never r e = absurd (cc)
+
+pub six_passed : (a b c d e f : Bool) (o : Option Refusal) → six a b c d e f None ≡ None → o ≡ six a b c d e f o
+six_passed true b c d e f o h = never _ h
+six_passed false true c d e f o h = never _ h
+six_passed false false true d e f o h = never _ h
+six_passed false false false true e f o h = never _ h
+six_passed false false false false true f o h = never _ h
+six_passed false false false false false true o h = never _ h
+six_passed false false false false false false o h = refl
+
+pub six_refused : (a b c d e f : Bool) (r : Refusal) (o : Option Refusal) → Some r ≡ six a b c d e f None → Some r ≡ six a b c d e f o
+six_refused true b c d e f r o h = h
+six_refused false true c d e f r o h = h
+six_refused false false true d e f r o h = h
+six_refused false false false true e f r o h = h
+six_refused false false false false true f r o h = h
+six_refused false false false false false true r o h = h
+six_refused false false false false false false r o h = never r h
+
 pub record Accepted (most_rows most_groups kept rows : ℕ) (gs : List ℕ) (ticked : Option ℕ) (total : ℕ) : Type 0 where
   pub few : rows ≤ most_rows
   pub even : rows ≡ length gs

@@ -1,4 +1,5 @@
 pub mod Accepting
+pub mod EachNamed
 pub mod Fills
 pub mod InLines
 pub mod Marking

@@ -50,7 +50,7 @@ named_at kept k ms (g ∷ gs) h l =
     ∙ ap (λ b. b || has k gs) (step_at kept g k ms h l)
     ∙ or_swap (eqb k g) (get_or ms k false) (has k gs)
 
-named_length : (kept : ℕ) (ms : List Bool) (gs : List ℕ) → length (named_marks kept ms gs) ≡ length ms
+pub named_length : (kept : ℕ) (ms : List Bool) (gs : List ℕ) → length (named_marks kept ms gs) ≡ length ms
 named_length kept ms [] = refl
 named_length kept ms (g ∷ gs) = named_length kept (step kept ms g) gs ∙ step_length kept g ms
 
@@ -77,7 +77,7 @@ module _ (xs : List Bool) (from to : ℕ) (h : from ≤ to) (l : to ≤ length x
   refilled_length =
       omega (arith, length-append (take from xs) (replicate (to - from) false ++ drop to xs), length-append (replicate (to - from) false) (drop to xs), front, mid, length-drop to xs)
 
-  refilled_at : (k : ℕ) → from ≤ k → k < to → get_or (refilled xs from to false) k false ≡ false
+  pub refilled_at : (k : ℕ) → from ≤ k → k < to → get_or (refilled xs from to false) k false ≡ false
   refilled_at k a b =
       let n : k - from < length (replicate (to - from) false) = omega (arith, mid) in
       get_or-append_right (take from xs) _ from k false front a
