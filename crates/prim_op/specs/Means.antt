@@ -18,23 +18,23 @@ kind_of o = primitive o.start o.rule
 module _ {E O L : Type 0} where
   -- the marks in force, and the values, of the kept groups
   abbrev pub marks_of : OpGroupsAccumulator E O L → List Bool
-  marks_of s = kept_marks s.null_state
+  marks_of s = kept_marks s.marks
 
   abbrev pub values_of : OpGroupsAccumulator E O L → List E
-  values_of s = take s.null_state.kept s.values.now
+  values_of s = take s.marks.null_state.kept s.values.now
 
   abbrev pub meaning_of : OpGroupsAccumulator E O L → Meaning (Option E)
   meaning_of s =
       record {
         credits = credits_of (marks_of s) (values_of s);
-        marked = not (is_plain s.null_state.seen_values);
+        marked = not (is_plain s.marks.null_state.seen_values);
         most_rows = s.limits.rows;
         most_groups = s.limits.groups;
         most_pairs = 0;
       }
 
   pub record Sound (start : E) (s : OpGroupsAccumulator E O L) : Type 0 where
-    pub kept_limit : s.null_state.kept ≤ s.limits.groups
+    pub kept_limit : s.marks.null_state.kept ≤ s.limits.groups
     pub limit_values : s.limits.groups ≤ length s.values.now
-    pub limit_marks : s.limits.groups ≤ length s.null_state.marks.now
+    pub limit_marks : s.limits.groups ≤ length s.marks.slots.now
     pub unset : Unset start (marks_of s) (values_of s)

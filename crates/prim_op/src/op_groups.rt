@@ -21,11 +21,12 @@ use groups::checks::Batch;
 use groups::emit::EmitTo;
 use groups::groups_accumulator::{Commuting, GroupsAccumulator};
 use groups::limits::{BatchLimits, MOST};
+use groups::marks::Marks;
 use groups::moves::{fill_part, move_down};
-use groups::null_state::NullState;
 use operations::operation::Operation;
 use std::marker::PhantomData;
-use walk::accumulate::{Visitor, accumulate};
+use walk::accumulate::Visitor;
+use walk::columns::Accumulate;
 
 /// A value and a mark for each kept group, in lent memory, under an operation: the accumulator of the primitive and the
 /// boolean kinds, which differ in how the items of rows and answers are packed.
@@ -33,7 +34,7 @@ use walk::accumulate::{Visitor, accumulate};
 #[derive(Drop)]
 pub struct OpGroupsAccumulator<'m, T, O, L> {
     pub(crate) values: &'m mut [T],
-    pub(crate) null_state: NullState<'m>,
+    pub(crate) marks: Marks<'m>,
     pub(crate) limits: BatchLimits,
     pub(crate) op: O,
     pub(crate) packing: PhantomData<L>,
@@ -58,7 +59,7 @@ impl<'m, T: Copy, O: Operation<T>, L> OpGroupsAccumulator<'m, T, O, L> {
         };
         OpGroupsAccumulator {
             values,
-            null_state: NullState::new(marks),
+            marks: Marks::new(marks),
             limits,
             op,
             packing: PhantomData,
@@ -70,9 +71,9 @@ impl<'m, T: Copy, O: Operation<T>, L> OpGroupsAccumulator<'m, T, O, L> {
 impl<'m, T: Copy, O: Operation<T>, L> Visitor<T> for OpGroupsAccumulator<'m, T, O, L> {
     ghost Model = { List T × (List Bool × Bool) };
 
-    ghost model = { λ s. (s.values.now, (s.null_state.marks.now, is_plain s.null_state.seen_values)) };
+    ghost model = { λ s. (s.values.now, (s.marks.slots.now, is_plain s.marks.null_state.seen_values)) };
 
-    ghost fixed = { λ s. (min (length s.values.now) (length s.null_state.marks.now), length s.values.now ∷ (length s.null_state.marks.now ∷ (s.null_state.kept ∷ (s.limits.rows ∷ (s.limits.groups ∷ []))))) };
+    ghost fixed = { λ s. (min (length s.values.now) (length s.marks.slots.now), length s.values.now ∷ (length s.marks.slots.now ∷ (s.marks.null_state.kept ∷ (s.limits.rows ∷ (s.limits.groups ∷ []))))) };
 
     ghost after = { λ m k x. (slice_set m.0 k (O.Operation.rule (slice_index_or m.0 k O.Operation.start) x), ((if m.1.1 then m.1.0 else slice_set m.1.0 k true), m.1.1)) };
 
@@ -81,28 +82,33 @@ impl<'m, T: Copy, O: Operation<T>, L> Visitor<T> for OpGroupsAccumulator<'m, T, 
     fn visit(&mut self, group: usize, value: T) {
         let old = self.values[group];
         self.values[group] = O::combine(old, value);
-        self.null_state.mark(group);
+        self.marks.mark(group);
     }
 }
 
-impl<'m, T: Copy, O: Operation<T>, L: Writable<Item = T>> OpGroupsAccumulator<'m, T, O, L> {
+impl<'m, T: Copy, O: Operation<T>, L: Writable<Item = T> + Accumulate> OpGroupsAccumulator<
+    'm,
+    T,
+    O,
+    L,
+> {
     /// Opens groups up to the total: the new ones have the start value and no mark.
     fn open(&mut self, total: usize, turns: bool)
-        requires order { self.old.null_state.kept ≤ total }
+        requires order { self.old.marks.null_state.kept ≤ total }
         requires values { total ≤ length self.old.values.now }
-        requires marks { total ≤ length self.old.null_state.marks.now }
-        ensures kept { self.new.null_state.kept ≡ total }
-        ensures switch { is_plain self.new.null_state.seen_values ≡ (is_plain self.old.null_state.seen_values && not turns) }
-        ensures values { take total self.new.values.now ≡ values_of self.old ++ replicate (total - self.old.null_state.kept) O.Operation.start }
-        ensures marks { is_plain self.new.null_state.seen_values ≡ false → take total self.new.null_state.marks.now ≡ marks_of self.old ++ replicate (total - self.old.null_state.kept) false }
+        requires marks { total ≤ length self.old.marks.slots.now }
+        ensures kept { self.new.marks.null_state.kept ≡ total }
+        ensures switch { is_plain self.new.marks.null_state.seen_values ≡ (is_plain self.old.marks.null_state.seen_values && not turns) }
+        ensures values { take total self.new.values.now ≡ values_of self.old ++ replicate (total - self.old.marks.null_state.kept) O.Operation.start }
+        ensures marks { is_plain self.new.marks.null_state.seen_values ≡ false → take total self.new.marks.slots.now ≡ marks_of self.old ++ replicate (total - self.old.marks.null_state.kept) false }
         ensures limits { self.new.limits ≡ self.old.limits }
         ensures values_len { length self.new.values.now ≡ length self.old.values.now }
-        ensures marks_len { length self.new.null_state.marks.now ≡ length self.old.null_state.marks.now }
+        ensures marks_len { length self.new.marks.slots.now ≡ length self.old.marks.slots.now }
     {
-        let kept = self.null_state.kept;
+        let kept = self.marks.null_state.kept;
         let start = O::starting_value();
         fill_part(self.values, kept, total, start);
-        self.null_state.open(total, turns);
+        self.marks.open(total, turns);
     }
 
     /// Joins each row's credit to its group's, after opening groups up to the total; or a refusal, and nothing changed.
@@ -118,7 +124,7 @@ impl<'m, T: Copy, O: Operation<T>, L: Writable<Item = T>> OpGroupsAccumulator<'m
         ensures answer { result_err result ≡ update_refusal (kind_of O.Operation) (meaning_of self.old) (rows_of values.now) (ticks opt_filter.now) group_indices.now total }
         ensures after { meaning_of self.new ≡ unless (result_err result) (meaning_of self.old) (updated (kind_of O.Operation) (meaning_of self.old) (rows_of values.now) (ticks opt_filter.now) group_indices.now total) }
     {
-        let kept = self.null_state.kept;
+        let kept = self.marks.null_state.kept;
         let limits = self.limits;
         let batch = Batch {
             rows: values.len(),
@@ -126,10 +132,10 @@ impl<'m, T: Copy, O: Operation<T>, L: Writable<Item = T>> OpGroupsAccumulator<'m
             ticked: opt_filter.ticked(),
             total,
         };
-        batch.refuse(limits, kept, self.null_state.marks)?;
+        batch.refuse(limits, kept, self.marks.slots)?;
         let turns = opt_filter.given() | (values.null_count() > 0);
         self.open(total, turns);
-        accumulate(group_indices, values, opt_filter, self);
+        L::accumulate(group_indices, values, opt_filter, self);
         Ok(())
     }
 
@@ -143,30 +149,30 @@ impl<'m, T: Copy, O: Operation<T>, L: Writable<Item = T>> OpGroupsAccumulator<'m
         ensures answer { result_err result ≡ evaluate_refusal (kind_of O.Operation) B.Buffers.layout (meaning_of self.now) emit_to (places B.Buffers out.old) }
         ensures written { HandsOut B.Buffers (result_err result) (answer (kind_of O.Operation) (meaning_of self.now) emit_to) out.old out.new }
     {
-        let kept = self.null_state.kept;
+        let kept = self.marks.null_state.kept;
         let rows = emit_to.count(kept);
         if rows > kept {
             return Err(Refusal::TooManyGroups);
         }
-        let masked = self.null_state.is_marked();
+        let masked = self.marks.is_marked();
         if !out.fits(rows, masked) {
             return Err(Refusal::ShortBuffer);
         }
-        out.put(self.values, self.null_state.marks, rows, masked);
+        out.put(self.values, self.marks.slots, rows, masked);
         Ok(())
     }
 
     /// Removes the groups asked for, of which there are enough.
     pub(crate) fn remove(&mut self, emit_to: EmitTo)
         requires sound { Sound O.Operation.start self.old }
-        requires few { count_of emit_to self.old.null_state.kept ≤ self.old.null_state.kept }
+        requires few { count_of emit_to self.old.marks.null_state.kept ≤ self.old.marks.null_state.kept }
         ensures stays { Sound O.Operation.start self.new }
         ensures after { meaning_of self.new ≡ removed (kind_of O.Operation) (meaning_of self.old) emit_to }
     {
-        let kept = self.null_state.kept;
+        let kept = self.marks.null_state.kept;
         let rows = emit_to.count(kept);
         move_down(self.values, rows, kept);
-        self.null_state.remove(emit_to);
+        self.marks.remove(emit_to);
     }
 
     /// Shows the groups asked for and removes them; or a refusal, and nothing changed.
@@ -209,7 +215,7 @@ impl<'m, T: Copy, O: Operation<T>, L: Writable<Item = T>> OpGroupsAccumulator<'m
         ensures answer { result_err result ≡ forget_refusal (kind_of O.Operation) (meaning_of self.old) emit_to }
         ensures after { meaning_of self.new ≡ unless (result_err result) (meaning_of self.old) (removed (kind_of O.Operation) (meaning_of self.old) emit_to) }
     {
-        let kept = self.null_state.kept;
+        let kept = self.marks.null_state.kept;
         if emit_to.count(kept) > kept {
             return Err(Refusal::TooManyGroups);
         }
@@ -243,8 +249,13 @@ impl<'m, T: Copy, O: Operation<T>, L: Writable<Item = T>> OpGroupsAccumulator<'m
     }
 }
 
-impl<'a, 'm, T: Copy + 'a, O: Operation<T>, L: Writable<Item = T> + 'a> GroupsAccumulator<'a>
-    for OpGroupsAccumulator<'m, T, O, L>
+impl<
+    'a,
+    'm,
+    T: Copy + 'a,
+    O: Operation<T>,
+    L: Writable<Item = T> + Accumulate + 'a,
+> GroupsAccumulator<'a> for OpGroupsAccumulator<'m, T, O, L>
 where
     L::Slot: 'a,
 {
@@ -321,7 +332,7 @@ where
     }
 }
 
-impl<'a, 'm, T: Copy + 'a, O: Operation<T>, L: Writable<Item = T> + 'a> Commuting<'a>
+impl<'a, 'm, T: Copy + 'a, O: Operation<T>, L: Writable<Item = T> + Accumulate + 'a> Commuting<'a>
     for OpGroupsAccumulator<'m, T, O, L>
 where
     L::Slot: 'a,

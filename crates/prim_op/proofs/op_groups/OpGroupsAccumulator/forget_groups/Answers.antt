@@ -10,8 +10,8 @@ use Rattle.prim_op.proofs.op_groups.OpGroupsAccumulator.forget_groups.Goals as g
 pub returns-then-count-kept : goal.returns-then-count-kept
 returns-then-count-kept g c =
     let s = c.args.self.now in
-    let kept = s.null_state.kept in
-    let many = kept_credits (is_plain s.null_state.seen_values) kept s.null_state.marks.now s.values.now (omega arith) (omega arith) in
+    let kept = s.marks.null_state.kept in
+    let many = kept_credits (is_plain s.marks.null_state.seen_values) kept s.marks.slots.now s.values.now (omega arith) (omega arith) in
     record {
       stays = c.requires;
       answer = sym (cond-true _ _ _ (many_is c.args.emit_to (credits_of (marks_of s) (values_of s)) kept c.count.result true many c.count.ensures (lt-ltb kept c.count.result c.if-count-kept.true)));
@@ -21,8 +21,8 @@ returns-then-count-kept g c =
 pub returns : goal.returns
 returns g c =
     let s = c.args.self.now in
-    let kept = s.null_state.kept in
-    let many = kept_credits (is_plain s.null_state.seen_values) kept s.null_state.marks.now s.values.now (omega arith) (omega arith) in
+    let kept = s.marks.null_state.kept in
+    let many = kept_credits (is_plain s.marks.null_state.seen_values) kept s.marks.slots.now s.values.now (omega arith) (omega arith) in
     record {
       stays = c.remove.ensures.stays;
       answer = sym (cond-false _ _ _ (many_is c.args.emit_to (credits_of (marks_of s) (values_of s)) kept c.count.result false many c.count.ensures (le-ltb kept c.count.result c.if-count-kept.false)));

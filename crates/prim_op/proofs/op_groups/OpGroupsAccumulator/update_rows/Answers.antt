@@ -23,15 +23,15 @@ pub returns-in_err-refuse : goal.returns-in_err-refuse
 returns-in_err-refuse g c =
     let o = g.O.Operation in
     let s = c.args.self.now in
-    let plain = is_plain s.null_state.seen_values in
-    let kept = s.null_state.kept in
+    let plain = is_plain s.marks.null_state.seen_values in
+    let kept = s.marks.null_state.kept in
     let v = c.args.values.now.values in
     let rows = cells_under c.args.values.now.validity (g.L.Packing.items v.slots.now v.start v.len) in
     let f = ticks c.args.opt_filter.now in
-    let same : in_force plain kept c.refuse.new.marks ≡ marks_of s = forced_same plain kept c.refuse.new.marks s.null_state.marks.now c.refuse.ensures.marks in
-    let in-marks : kept ≤ length s.null_state.marks.now = omega arith in
+    let same : in_force plain kept c.refuse.new.marks ≡ marks_of s = forced_same plain kept c.refuse.new.marks s.marks.slots.now c.refuse.ensures.marks in
+    let in-marks : kept ≤ length s.marks.slots.now = omega arith in
     let in-values : kept ≤ length s.values.now = omega arith in
-    let many = kept_credits plain kept s.null_state.marks.now s.values.now in-marks in-values in
+    let many = kept_credits plain kept s.marks.slots.now s.values.now in-marks in-values in
     let P : List Bool → Type 0 = λ ms. Unset o.start ms (values_of s) in
     let line =
     c.in_err-refuse.ensures.answer
@@ -49,10 +49,10 @@ pub accumulate-requires : goal.accumulate-requires
 accumulate-requires g c =
     let s = c.args.self.now in
     let t = c.open.new.self in
-    let a = (accepted s.limits.rows s.limits.groups s.null_state.kept c.len.result c.args.group_indices.now c.ticked.result c.args.total _ (sym c.in_ok-refuse.ensures.answer)).0 in
+    let a = (accepted s.limits.rows s.limits.groups s.marks.null_state.kept c.len.result c.args.group_indices.now c.ticked.result c.args.total _ (sym c.in_ok-refuse.ensures.answer)).0 in
     record {
       even = sym a.even ∙ c.len.ensures;
-      named = All-from_recursion _ _ (All-weaker (λ k. k < c.args.total) (λ k. k < min (length t.values.now) (length t.null_state.marks.now)) (λ k h. omega (arith, a.room, c.open.ensures.values_len, c.open.ensures.marks_len)) c.args.group_indices.now a.below);
+      named = All-from_recursion _ _ (All-weaker (λ k. k < c.args.total) (λ k. k < min (length t.values.now) (length t.marks.slots.now)) (λ k h. omega (arith, a.room, c.open.ensures.values_len, c.open.ensures.marks_len)) c.args.group_indices.now a.below);
       ticked = ticks_long (ticks c.args.opt_filter.now) c.len.result (length c.args.group_indices.now) (ap (λ q. unwrap_or q c.len.result) (sym c.ticked.ensures) ∙ a.filter) a.even;
     }
 
@@ -60,15 +60,15 @@ pub returns : goal.returns
 returns g c =
     let o = g.O.Operation in
     let s = c.args.self.now in
-    let plain = is_plain s.null_state.seen_values in
-    let kept = s.null_state.kept in
+    let plain = is_plain s.marks.null_state.seen_values in
+    let kept = s.marks.null_state.kept in
     let total = c.args.total in
     let gs = c.args.group_indices.now in
     let v = c.args.values.now.values in
     let rows = cells_under c.args.values.now.validity (g.L.Packing.items v.slots.now v.start v.len) in
     let f = ticks c.args.opt_filter.now in
     let t = c.open.new.self in
-    let plain' = is_plain t.null_state.seen_values in
+    let plain' = is_plain t.marks.null_state.seen_values in
     let z = c.accumulate.new.visitor in
     let ps = visits gs rows (passes f (length gs)) in
     let line : refusal (batch_line s.limits.rows s.limits.groups kept (length rows) gs (option_map length f) total) ≡ None =
@@ -77,14 +77,14 @@ returns g c =
     ∙ sym c.in_ok-refuse.ensures.answer in
     let a = (accepted s.limits.rows s.limits.groups kept (length rows) gs (option_map length f) total _ line).0 in
     let names = named s.limits.rows s.limits.groups kept (length rows) gs (option_map length f) total line in
-    let told = c.accumulate.ensures.told ∙ told_memory o.start o.rule t.values.now t.null_state.marks.now plain' ps in
+    let told = c.accumulate.ensures.told ∙ told_memory o.start o.rule t.values.now t.marks.slots.now plain' ps in
     let five = five_same _ _ _ _ _ _ _ _ _ _ _ _ c.accumulate.ensures.same in
     let turns = c.given.result || ltb 0 c.null_count.result in
     let turned : turns ≡ (is_some f || ltb 0 (nulls rows)) = ap (λ b. b || ltb 0 c.null_count.result) c.given.ensures ∙ ap (λ n. is_some f || ltb 0 n) c.null_count.ensures in
-    let force : in_force plain kept c.refuse.new.marks ≡ marks_of s = forced_same plain kept c.refuse.new.marks s.null_state.marks.now c.refuse.ensures.marks in
+    let force : in_force plain kept c.refuse.new.marks ≡ marks_of s = forced_same plain kept c.refuse.new.marks s.marks.slots.now c.refuse.ensures.marks in
     let in-values : kept ≤ length s.values.now = omega arith in
-    let in-marks : kept ≤ length s.null_state.marks.now = omega arith in
-    let all : Told o.start o.rule kept total plain plain' s.null_state.marks.now t.null_state.marks.now z.null_state.marks.now s.values.now t.values.now z.values.now ps =
+    let in-marks : kept ≤ length s.marks.slots.now = omega arith in
+    let all : Told o.start o.rule kept total plain plain' s.marks.slots.now t.marks.slots.now z.marks.slots.now s.values.now t.values.now z.values.now ps =
     record {
       order = a.order;
       room_values = in-values;
@@ -99,14 +99,14 @@ returns g c =
       was_plain = λ e. (and_parts plain (not turns) (sym c.open.ensures.switch ∙ e)).0;
       covered = all_covered kept total gs rows f plain turns plain' a.order a.even names c.open.ensures.switch turned;
     } in
-    let zkept : z.null_state.kept ≡ total = five.2 ∙ c.open.ensures.kept in
-    let zplain : is_plain z.null_state.seen_values ≡ plain' = ap (λ y. y.1.1) told in
+    let zkept : z.marks.null_state.kept ≡ total = five.2 ∙ c.open.ensures.kept in
+    let zplain : is_plain z.marks.null_state.seen_values ≡ plain' = ap (λ y. y.1.1) told in
     let join = join_by o.rule in
     let cs = credits_of (marks_of s) (values_of s) in
-    let many : length cs ≡ kept = kept_credits plain kept s.null_state.marks.now s.values.now in-marks in-values in
+    let many : length cs ≡ kept = kept_credits plain kept s.marks.slots.now s.values.now in-marks in-values in
     let credits =
-    ap (λ b. credits_of (in_force b z.null_state.kept z.null_state.marks.now) (values_of z)) zplain
-    ∙ ap (λ k. credits_of (in_force plain' k z.null_state.marks.now) (take k z.values.now)) zkept
+    ap (λ b. credits_of (in_force b z.marks.null_state.kept z.marks.slots.now) (values_of z)) zplain
+    ∙ ap (λ k. credits_of (in_force plain' k z.marks.slots.now) (take k z.values.now)) zkept
     ∙ credits_updated all join (λ b. refl) (λ x y. refl) (join_none o.rule) (passes f (length rows)) gs rows (ap (λ n. visits gs rows (passes f n)) (sym a.even))
     ∙ ap (λ k. deal join (admitted (passes f (length rows)) gs (map seen rows)) (cs ++ replicate (total - k) None)) (sym many) in
     let start-kept : Unset o.start (marks_of z) (values_of z) =
