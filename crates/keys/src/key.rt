@@ -1,8 +1,10 @@
-ghost use Rattle.std.specs.Prelude.{◌≡◌, ℕ, ◌+◌, ◌*◌, Bool, true};
+ghost use Rattle.std.specs.Prelude.{◌≡◌, ℕ, ◌+◌, ◌*◌, Bool, true, nat_eq, refl};
 ghost use Rattle.std.specs.Int.{w64};
-ghost use Rattle.std.proofs.Common.{of_z, rules};
-ghost use Rattle.std.specs.Cmp.{signed_Decides, IsEquivalence};
+ghost use Rattle.std.proofs.Common.{of_z};
+ghost use Rattle.std.specs.Ordering.{int_eq};
+ghost use Rattle.std.specs.Cmp.{IsEquivalence, nat_eq_equiv, int_eq_equiv};
 ghost use Rattle.keys.specs.Hash.{scattered};
+ghost use Rattle.keys.specs.Same.{equal_doors, doors, number_hashes, signed_hashes, door_hashes};
 
 use crate::hash::scatter;
 
@@ -11,35 +13,49 @@ pub trait Key: Copy {
     /// Whether two keys count as one.
     ghost same: { Self → Self → Bool };
 
+    ghost equivalence: { IsEquivalence same };
+
     /// The hash number of a key under a seed.
     ghost hash: { ℕ → Self → ℕ };
+
+    /// Keys that count as one have one hash number.
+    ghost hashes: { (seed : ℕ) (a b : Self) → same a b ≡ true → hash seed a ≡ hash seed b };
 
     fn is(self, other: Self) -> bool
         ensures { result ≡ same self other };
 
     fn hash_number(self, seed: u64) -> u64
         ensures { result ≡ hash seed self };
-
-    ghost equivalence: { IsEquivalence same };
-
-    /// Keys that count as one have one hash number.
-    ghost hashes: { (seed : ℕ) (a b : Self) → same a b ≡ true → hash seed a ≡ hash seed b };
 }
 
 /// What a value that `==` tells apart needs to be a key.
 pub trait Hashed: Copy + Eq {
+    /// Whether two values are equal.
+    ghost equal: { Self → Self → Bool };
+
+    ghost equivalence: { IsEquivalence equal };
+
+    /// The hash number of a value under a seed.
     ghost number: { ℕ → Self → ℕ };
+
+    /// Equal values have one hash number.
+    ghost numbers: { (seed : ℕ) (a b : Self) → equal a b ≡ true → number seed a ≡ number seed b };
 
     fn number(self, seed: u64) -> u64
         ensures { result ≡ number seed self };
 
-    ghost numbers: { (seed : ℕ) (a b : Self) → Self.eq a b ≡ true → number seed a ≡ number seed b };
+    /// Equal is what `==` finds.
+    ghost finds: { (a b : Self) → Self.eq a b ≡ equal a b };
 }
 
 impl<K: Hashed> Key for K {
-    ghost same = { K.eq };
+    ghost same = { K.Hashed.equal };
+
+    ghost equivalence = { K.Hashed.equivalence };
 
     ghost hash = { K.Hashed.number };
+
+    ghost hashes = { K.Hashed.numbers };
 
     fn is(self, other: K) -> bool {
         self == other
@@ -48,30 +64,38 @@ impl<K: Hashed> Key for K {
     fn hash_number(self, seed: u64) -> u64 {
         self.number(seed)
     }
-
-    ghost equivalence = { K.Eq.laws };
-
-    ghost hashes = { K.Hashed.numbers };
 }
 
 impl Hashed for i64 {
+    ghost equal = { int_eq };
+
+    ghost equivalence = { int_eq_equiv };
+
     ghost number = { λ seed a. scattered seed (of_z w64 a) };
 
-    ghost numbers = { Prim.search (rules, signed_Decides) };
+    ghost numbers = { signed_hashes };
 
     fn number(self, seed: u64) -> u64 {
         scatter(seed, self.cast_unsigned())
     }
+
+    ghost finds = { λ a b. refl };
 }
 
 impl Hashed for u32 {
+    ghost equal = { nat_eq };
+
+    ghost equivalence = { nat_eq_equiv };
+
     ghost number = { scattered };
 
-    ghost numbers = { Prim.search rules };
+    ghost numbers = { number_hashes };
 
     fn number(self, seed: u64) -> u64 {
         scatter(seed, self as u64)
     }
+
+    ghost finds = { λ a b. refl };
 }
 
 /// A house in a street.
@@ -82,12 +106,18 @@ pub struct Door {
 }
 
 impl Hashed for Door {
+    ghost equal = { equal_doors };
+
+    ghost equivalence = { doors };
+
     // the street above the 16 bits of the house
     ghost number = { λ seed a. scattered seed (a.street * 65536 + a.house) };
 
-    ghost numbers = { Prim.search rules };
+    ghost numbers = { door_hashes };
 
     fn number(self, seed: u64) -> u64 {
         scatter(seed, self.street as u64 * 65536 + self.house as u64)
     }
+
+    ghost finds = { λ a b. refl };
 }
