@@ -18,7 +18,7 @@ or_known false false h = refl
 
 module _ {K : Type 0} {same : K → K → Bool} (e : IsEquivalence same) where
   -- what is the same as a member is one
-  has_like : (xs : List K) (x k : K) → same x k ≡ true → has same xs x ≡ has same xs k
+  pub has_like : (xs : List K) (x k : K) → same x k ≡ true → has same xs x ≡ has same xs k
   has_like xs x k l = ap (λ (p : K → Bool). list_any p xs) (λ i y. (e.symm y x ∙ e.congr x k y l ∙ e.symm k y) i)
 
   has_added : (xs : List K) (x k : K) → has same (added same xs x) k ≡ (has same xs k || same x k)

@@ -17,7 +17,7 @@ module _ {K : Type 0} (same : K → K → Bool) where
   lacks : (xs : List K) (x : K) → has same xs x ≡ false → (k : ℕ) (d : K) → k < length xs → same (get_or xs k d) x ≡ false
   lacks xs x n k d l = false_from_ne_true (same (get_or xs k d) x) (λ t. true≢false (sym (list_any_at (λ y. same y x) xs k d l t) ∙ n))
 
-  added_different : (xs : List K) (x : K) → Different same xs → Different same (added same xs x)
+  pub added_different : (xs : List K) (x : K) → Different same xs → Different same (added same xs x)
   added_different xs x a = cond_both (has same xs x) xs (xs ++ x ∷ []) (λ zs. Different same zs) (λ e. a) (λ n. all_pairs_push (λ y z. same y z ≡ false) xs x a (lacks xs x n))
 
   pub with_all_different : (xs ys : List K) → Different same xs → Different same (with_all same xs ys)

@@ -85,8 +85,8 @@ module _ {E : Type 0} {UpTo : E → E → Type 0} {rank : E → E → Ordering} 
 itself_true : (b : Bool) → Decides b (b ≡ true)
 itself_true b = (λ e. e, λ e. e)
 
-pub shows_all : ShowsAll true ◌&&◌
-shows_all rs =
+pub shows_all : (start : Bool) → ShowsAll start ◌&&◌
+shows_all start rs =
     shows ◌&&◌ (λ v. Unit {0}) (λ vs m. Decides m (All (λ v. v ≡ true) vs))
     (λ x k. (λ e. All-cons (λ v. v ≡ true) x [] e (All-nil (λ v. v ≡ true)), λ a. All-head (λ v. v ≡ true) x [] a))
     (λ x vs m k d.
@@ -94,10 +94,10 @@ shows_all rs =
     (λ (b : (x ≡ true) × All (λ v. v ≡ true) vs). All-cons (λ v. v ≡ true) x vs b.0 b.1)
     (λ a. (All-head (λ v. v ≡ true) x vs a, All-tail (λ v. v ≡ true) x vs a))
     (Decides-and x m (itself_true x) d))
-    true rs (λ k l n. tt)
+    start rs (λ k l n. tt)
 
-pub shows_any : ShowsAny false ◌||◌
-shows_any rs =
+pub shows_any : (start : Bool) → ShowsAny start ◌||◌
+shows_any start rs =
     shows ◌||◌ (λ v. Unit {0}) (λ vs m. Decides m (Contains vs true))
     (λ x k. Decides-like x (λ e. subst (Contains (x ∷ [])) e (first_of x [])) (λ h. ⊎_elim (λ none. absurd (omega (arith, none.1))) (λ e. e) (Contains-push_cases [] x true h)) (itself_true x))
     (λ x vs m k d.
@@ -105,7 +105,7 @@ shows_any rs =
     (⊎_elim (λ (e : x ≡ true). subst (Contains (x ∷ vs)) e (first_of x vs)) (λ (h : Contains vs true). Contains-append_right (x ∷ []) vs true h))
     (λ h. ⊎_elim (λ h. ⊎_elim (λ none. absurd (omega (arith, none.1))) inl (Contains-push_cases [] x true h)) inr (Contains-append_cases (x ∷ []) vs true h))
     (Decides-or x m (itself_true x) d))
-    false rs (λ k l n. tt)
+    start rs (λ k l n. tt)
 
 -- one more changes whether a number is odd
 odd_more : (m : Bool) (n : ℕ) → Decides m (n % 2 ≡ 1) → Decides (not m) ((1 + n) % 2 ≡ 1)
@@ -120,9 +120,9 @@ odd_one : (x : Bool) → Decides x (count_by (λ v. v) (x ∷ []) % 2 ≡ 1)
 odd_one true = (λ e. refl, λ e. refl)
 odd_one false = (λ e. absurd (true≢false (sym e)), λ e. absurd (omega (arith, e)))
 
-pub shows_odd : ShowsOdd false odd_of
-shows_odd rs =
+pub shows_odd : (start : Bool) → ShowsOdd start odd_of
+shows_odd start rs =
     shows odd_of (λ v. Unit {0}) (λ vs m. Decides m (count_by (λ v. v) vs % 2 ≡ 1))
     (λ x k. odd_one x)
     (λ x vs m k d. subst (λ n. Decides (odd_of x m) (n % 2 ≡ 1)) (sym (sum_by-cons (λ v. cond v 1 0) x vs)) (odd_step x m (count_by (λ v. v) vs) d))
-    false rs (λ k l n. tt)
+    start rs (λ k l n. tt)

@@ -123,3 +123,14 @@ stamps =
       onward = stamp_onward;
       level = λ a b p q. same_stamp a b (omega (arith, p, q)) (omega (arith, p, q));
     }
+
+-- a stamp that compares as less is of an earlier second, or of the same second and a lower depot
+pub stamp_before : (a b : Stamp) → is_lt (then_cmp (on (λ s. s.second) nat_cmp) (on (λ s. s.depot) nat_cmp) a b) ≡ true → (a.second < b.second) ⊎ ((a.second ≡ b.second) × (a.depot < b.depot))
+stamp_before a b = before (nat_cmp a.second b.second) (nat_cmp a.depot b.depot) (ranked a.second b.second _ refl) (ranked a.depot b.depot _ refl)
+  where
+    before : (r s : Ordering) → MatchOrdering r (a.second < b.second) (a.second ≡ b.second) (b.second < a.second) → MatchOrdering s (a.depot < b.depot) (a.depot ≡ b.depot) (b.depot < a.depot) → is_lt (ordering_then r s) ≡ true → (a.second < b.second) ⊎ ((a.second ≡ b.second) × (a.depot < b.depot))
+    before Less s m n h = inl m
+    before Equal Less m n h = inr (m, n)
+    before Equal Equal m n h = absurd (true≢false (sym h))
+    before Equal Greater m n h = absurd (true≢false (sym h))
+    before Greater s m n h = absurd (true≢false (sym h))

@@ -31,19 +31,16 @@ pub fn max_shows<T: Bounded>()
 {}
 
 /// Whether all of them are true.
-#[tactic(auto, using(crate::proofs::Folds::shows_all))]
 pub fn and_shows()
     ensures { ShowsAll and_bool.start and_bool.rule }
 {}
 
 /// Whether one of them is true.
-#[tactic(auto, using(crate::proofs::Folds::shows_any))]
 pub fn or_shows()
     ensures { ShowsAny or_bool.start or_bool.rule }
 {}
 
 /// Whether an odd number of them is true.
-#[tactic(auto, using(crate::proofs::Folds::shows_odd))]
 pub fn xor_shows()
     ensures { ShowsOdd xor_bool.start xor_bool.rule }
 {}
