@@ -32,13 +32,8 @@ impl Day {
             if text.trim().is_empty() {
                 continue;
             }
-            // Spaces around a field do not count.
-            let fields = text
-                .split(',')
-                .map(|field| field.trim())
-                .collect::<Vec<&str>>(heap)?;
             let line = k.saturating_add(1);
-            match Row::read(line, fields.as_slice()) {
+            match Row::read(line, text) {
                 Ok(row) => day.rows.push(row)?,
                 Err(flaw) => day.bad_lines.push(BadLine { line, flaw })?,
             }

@@ -164,8 +164,8 @@ pub fn divide(
     let merged_rows = states.len;
     let shown = merged(heap, &Share::new(heap, rows, plan, &first)?, &states)?;
     Ok(Division {
-        first: first.batches(rows).count(|_| true),
-        second: second.batches(rows).count(|_| true),
+        first: first.batches(rows).len(),
+        second: second.batches(rows).len(),
         states: merged_rows,
         groups: shown.len(),
         differs: first_other(&first, shown.as_slice(), grams),

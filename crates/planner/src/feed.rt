@@ -9,7 +9,6 @@ use buffers::buffers::ColumnBuffers;
 use buffers::pack::bytes_for;
 use buffers::writable::Writable;
 use columnar::column::FlatColumn;
-use columnar::filter::Filter;
 use columnar::refusal::Refusal;
 use columnar::rows::Rows;
 use groups::emit::EmitTo;
@@ -18,6 +17,7 @@ use groups::limits::MOST;
 use operations::operation::Operation;
 use prim_op::op_groups::OpGroupsAccumulator;
 use std::alloc::{AllocError, Global};
+use walk::columns::Accumulate;
 
 /// Memory to lend: an accumulator's, and an answer's.
 // Lists side by side, as the library borrows them.
@@ -80,8 +80,28 @@ where
     ensures { T.GroupsAccumulator.sound acc.new }
 {
     let column = series.column(turn)?;
-    let filter = Filter::from(ticks.column(turn)?);
+    let filter = ticks.filter(turn)?;
     acc.update_batch(&column, turn.of(indices), &filter, turn.total)
+}
+
+/// Hands a batch over, unless it was refused when the plan was made.
+// A function of its own: that the accumulator is sound is lost where an `if` joins before a call.
+fn feed_counted<'a, L: Writable, T: GroupsAccumulator<'a, Values = FlatColumn<'a, L>>>(
+    acc: &mut T,
+    series: &'a Series<L>,
+    plan: &Plan,
+    turn: Turn,
+) -> Result<(), Refusal>
+where
+    L::Item: Copy,
+    L::Slot: Clone + Default + Drop,
+    requires { T.GroupsAccumulator.sound acc.old }
+    ensures { T.GroupsAccumulator.sound acc.new }
+{
+    if !turn.is_counted() {
+        return Ok(());
+    }
+    feed(acc, series, &plan.ticks, plan.indices.as_slice(), turn)
 }
 
 /// Reads an answer back from its buffers.
@@ -115,7 +135,11 @@ where
 
 /// Each group's figure, in the order of their opening, by the accumulator that makes the plan: what it refuses is handed
 /// to none.
-pub fn lead_with<L: Writable, O: Operation<L::Item> + Drop, F: Fn(&Row) -> Option<L::Item>>(
+pub fn lead_with<
+    L: Writable + Accumulate,
+    O: Operation<L::Item> + Drop,
+    F: Fn(&Row) -> Option<L::Item>,
+>(
     heap: Global,
     op: O,
     rows: &[Row],
@@ -147,13 +171,11 @@ where
 /// over.
 // Alike but for its loop: one function for both would take the loop as a closure over accumulator, buffers and plan, and
 // be no plainer.
-pub fn follow_with<L: Writable, O: Operation<L::Item> + Drop, F: Fn(&Row) -> Option<L::Item>>(
-    heap: Global,
-    op: O,
-    rows: &[Row],
-    cell: F,
-    plan: &Plan,
-) -> Result<Vec<Option<L::Item>>, Fault>
+pub fn follow_with<
+    L: Writable + Accumulate,
+    O: Operation<L::Item> + Drop,
+    F: Fn(&Row) -> Option<L::Item>,
+>(heap: Global, op: O, rows: &[Row], cell: F, plan: &Plan) -> Result<Vec<Option<L::Item>>, Fault>
 where
     L::Item: Copy,
     L::Slot: Clone + Default + Drop,
@@ -165,15 +187,7 @@ where
     let (mut acc, mut out) = memory.lend(op);
     let mut shown = Vec::new(heap);
     for turn in plan.turns.iter() {
-        if turn.is_counted() {
-            feed(
-                &mut acc,
-                &series,
-                &plan.ticks,
-                plan.indices.as_slice(),
-                *turn,
-            )?;
-        }
+        feed_counted(&mut acc, &series, plan, *turn)?;
         close(&mut acc, EmitTo::First(turn.closes), &mut out, &mut shown)?;
     }
     close(&mut acc, EmitTo::All, &mut out, &mut shown)?;

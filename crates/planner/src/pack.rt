@@ -3,6 +3,7 @@ use crate::plan::Turn;
 use crate::row::Row;
 use buffers::writable::Writable;
 use columnar::column::FlatColumn;
+use columnar::filter::Filter;
 use columnar::items::{Items, Mask};
 use columnar::packing::Packed;
 use columnar::refusal::Refusal;
@@ -67,5 +68,15 @@ where
         };
         let values = Items { slots, start, len };
         FlatColumn::new(values, Mask::new(self.mask.as_slice(), start, len)?)
+    }
+}
+
+impl Series<Packed> {
+    /// The rows of a batch as a filter of them.
+    pub fn filter(&self, turn: Turn) -> Result<Filter<'_>, Refusal> {
+        let rows = turn.to.saturating_sub(turn.from);
+        let yes = Mask::new(self.slots.as_slice(), turn.from, rows)?;
+        let known = Mask::new(self.mask.as_slice(), turn.from, rows)?;
+        Filter::new(yes, known)
     }
 }

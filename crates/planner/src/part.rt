@@ -40,8 +40,15 @@ impl Part {
         }
         let rows = day.rows.get(from..to).unwrap_or(&[]);
         if let Some(indices) = self.indices.as_mut_slice().get_mut(from..to) {
+            // Rows of one group often come one after another: the set is asked once for them.
+            let mut last: Option<(usize, usize)> = None;
             for (index, row) in indices.iter_mut().zip(rows) {
-                (*index, _) = self.groups.insert_full(row.group)?;
+                let number = match last {
+                    Some((group, number)) if group == row.group => number,
+                    _ => self.groups.insert_full(row.group)?.0,
+                };
+                *index = number;
+                last = Some((row.group, number));
             }
         }
         self.turns.push(Turn {

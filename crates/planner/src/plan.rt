@@ -126,15 +126,61 @@ pub struct Batches<'x> {
     pub turns: &'x [Turn],
 }
 
+/// What is counted of rows: how many, how many cells of each kind are null, and why rows are left out.
+#[derive(Clone, Copy, Default)]
+pub struct Counts {
+    pub rows: usize,
+    pub signed: usize,
+    pub grams: usize,
+    pub parcels: usize,
+    pub floor: usize,
+    pub altitude: usize,
+    pub moment: usize,
+    pub delivered_no: usize,
+    pub delivered_null: usize,
+}
+
+impl Counts {
+    fn with(self, row: &Row) -> Counts {
+        Counts {
+            rows: self.rows.saturating_add(1),
+            signed: self.signed.saturating_add(row.signed.is_none() as usize),
+            grams: self.grams.saturating_add(row.grams.is_none() as usize),
+            parcels: self.parcels.saturating_add(row.parcels.is_none() as usize),
+            floor: self.floor.saturating_add(row.floor.is_none() as usize),
+            altitude: self
+                .altitude
+                .saturating_add(row.altitude.is_none() as usize),
+            moment: self.moment.saturating_add(row.moment.is_none() as usize),
+            delivered_no: self
+                .delivered_no
+                .saturating_add((row.delivered == Some(false)) as usize),
+            delivered_null: self
+                .delivered_null
+                .saturating_add(row.delivered.is_none() as usize),
+        }
+    }
+}
+
 impl Batches<'_> {
-    /// How many rows with this property are in the batches that were counted.
-    pub fn count<F: Fn(&Row) -> bool>(self, has: F) -> usize
-        requires { F.IsAlwaysCallable has }
-    {
+    /// How many rows are in the batches that were counted.
+    pub fn len(self) -> usize {
         self.turns
             .iter()
             .filter(|turn| turn.is_counted())
-            .map(|turn| turn.of(self.rows).iter().filter(|row| has(row)).count())
+            .map(|turn| turn.of(self.rows).len())
             .fold(0, usize::saturating_add)
+    }
+
+    /// What is counted of their rows, which are read once for all of it.
+    pub fn counts(self) -> Counts {
+        let mut counts = Counts::default();
+        for turn in self.turns.iter().filter(|turn| turn.is_counted()) {
+            counts = turn
+                .of(self.rows)
+                .iter()
+                .fold(counts, |counts, row| counts.with(row));
+        }
+        counts
     }
 }

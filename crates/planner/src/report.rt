@@ -3,7 +3,7 @@ use crate::day::{BadLine, Day};
 use crate::divide::Division;
 use crate::fault::Fault;
 use crate::figures::Figures;
-use crate::plan::{Batches, Plan};
+use crate::plan::{Batches, Counts, Plan};
 use crate::table::Table;
 
 fn yes_or_no(flag: &Option<bool>) -> Option<&'static str> {
@@ -40,13 +40,16 @@ fn print_groups(rt: &HostRuntime, figures: &Figures) -> Result<(), Fault> {
 }
 
 // The handle that prints is a parameter of its own throughout, as it is no part of what is reported.
-fn print_nulls(rt: &HostRuntime, batches: Batches<'_>) -> Result<(), Fault> {
-    let signed = batches.count(|row| row.signed.is_none());
-    let grams = batches.count(|row| row.grams.is_none());
-    let parcels = batches.count(|row| row.parcels.is_none());
-    let floor = batches.count(|row| row.floor.is_none());
-    let altitude = batches.count(|row| row.altitude.is_none());
-    let moment = batches.count(|row| row.moment.is_none());
+fn print_nulls(rt: &HostRuntime, counts: Counts) -> Result<(), Fault> {
+    let Counts {
+        signed,
+        grams,
+        parcels,
+        floor,
+        altitude,
+        moment,
+        ..
+    } = counts;
     let all = [signed, grams, parcels, floor, altitude, moment]
         .into_iter()
         .fold(0, usize::saturating_add);
@@ -56,9 +59,9 @@ fn print_nulls(rt: &HostRuntime, batches: Batches<'_>) -> Result<(), Fault> {
     Ok(())
 }
 
-fn print_filtered(rt: &HostRuntime, batches: Batches<'_>) -> Result<(), Fault> {
-    let no = batches.count(|row| row.delivered == Some(false));
-    let null = batches.count(|row| row.delivered.is_none());
+fn print_filtered(rt: &HostRuntime, counts: Counts) -> Result<(), Fault> {
+    let no = counts.delivered_no;
+    let null = counts.delivered_null;
     let all = no.saturating_add(null);
     println!(rt; "filtered   {all}: delivered no {no}, delivered null {null}")?;
     Ok(())
@@ -89,10 +92,11 @@ fn print_bad_lines(rt: &HostRuntime, day: &Day) -> Result<(), Fault> {
 /// What was counted. Of a refused batch nothing is.
 fn print_counts(rt: &HostRuntime, batches: Batches<'_>, groups: usize) -> Result<(), Fault> {
     let read = batches.rows.len();
-    let counted = batches.count(|_| true);
+    let counts = batches.counts();
+    let counted = counts.rows;
     println!(rt; "rows       {counted} counted, of {read} read")?;
-    print_nulls(rt, batches)?;
-    print_filtered(rt, batches)?;
+    print_nulls(rt, counts)?;
+    print_filtered(rt, counts)?;
     println!(rt; "groups     {groups}")?;
     Ok(())
 }

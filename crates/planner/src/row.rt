@@ -7,6 +7,8 @@ use thiserror::Error;
 /// The first line of every file.
 pub const HEADER: &str = "group,delivered,signed,grams,parcels,floor,altitude,second,depot";
 
+const FIELDS: usize = 9;
+
 /// What a line says; an empty field is a null.
 #[derive(Clone, Copy)]
 pub struct Row {
@@ -64,9 +66,20 @@ fn tick(name: &'static str, text: &str) -> Result<Option<bool>, Flaw> {
 }
 
 impl Row {
-    /// Reads the fields of a line.
-    pub fn read(line: usize, fields: &[&str]) -> Result<Row, Flaw> {
-        let &[
+    /// Reads a line. Spaces around a field do not count.
+    // The fields are counted before any of them is kept: a line may have more of them than there is memory for.
+    pub fn read(line: usize, text: &str) -> Result<Row, Flaw> {
+        let count = text.split(',').count();
+        if count != FIELDS {
+            return Err(Flaw::FieldCount(count));
+        }
+        let mut fields = [""; FIELDS];
+        for (k, field) in text.split(',').enumerate() {
+            if k < FIELDS {
+                fields[k] = field.trim();
+            }
+        }
+        let [
             group,
             delivered,
             signed,
@@ -76,10 +89,7 @@ impl Row {
             altitude,
             second,
             depot,
-        ] = fields
-        else {
-            return Err(Flaw::FieldCount(fields.len()));
-        };
+        ] = fields;
         let group = number("group", group)?;
         let delivered = tick("delivered", delivered)?;
         let signed = tick("signed", signed)?;
