@@ -16,10 +16,14 @@ use std::alloc::AllocError;
 
 /// Items, lent, and which of their rows are valid.
 // The Rust keeps the number of nulls beside them too, and by a rule of the project each walk matches on it.
+// `packing` is there for its type alone, and no function reads it: it says that `L` outlives the loan, as slots of an
+// associated type do not, so that who is generic over `L` need not say so. With `PhantomData` in its place copies get no
+// proof, and with an array of no items no function of a trait that takes such columns.
 pub struct FlatColumn<'a, L: Packing> {
     pub values: Items<'a, L>,
     pub validity: Validity<'a>,
     pub nulls: usize,
+    pub packing: Option<&'a L>,
     ghost even: { validity.len ≡ values.len },
     ghost counted: { nulls ≡ null_rows (cells_under validity (L.items values.slots.now values.start values.len)) },
 }
@@ -54,6 +58,7 @@ impl<'a, L: Readable> FlatColumn<'a, L> {
             values,
             validity: Validity::all(values.len),
             nulls: 0,
+            packing: None,
         }
     }
 
@@ -70,6 +75,7 @@ impl<'a, L: Readable> FlatColumn<'a, L> {
             values,
             validity,
             nulls: validity.count_nulls(),
+            packing: None,
         })
     }
 

@@ -13,29 +13,39 @@ use prim_op::prim_op::PrimitiveGroupsAccumulator;
 use std::alloc::{AllocError, Global};
 use std::io;
 
+/// One batch into an accumulator, of values of any type.
+fn hand_over<'a, V: Copy, T: GroupsAccumulator<'a, Values = PrimitiveColumn<'a, V>>>(
+    acc: &mut T,
+    column: &PrimitiveColumn<'a, V>,
+    indices: &[usize],
+    groups: usize,
+) -> Result<(), Refusal>
+    requires { T.GroupsAccumulator.sound acc.old }
+    ensures { T.GroupsAccumulator.sound acc.new }
+{
+    acc.update_batch(column, indices, &Filter::none(), groups)
+}
+
 /// One batch into an accumulator, and all its groups shown.
 fn add_up<
     'a,
-    T: GroupsAccumulator<
-        'a,
-        Values = PrimitiveColumn<'a, i64>,
-        Answers = PrimitiveBuffers<'a, i64>,
-    >,
+    V: Copy,
+    T: GroupsAccumulator<'a, Values = PrimitiveColumn<'a, V>, Answers = PrimitiveBuffers<'a, V>>,
 >(
     sums: &mut T,
-    column: &PrimitiveColumn<'a, i64>,
+    column: &PrimitiveColumn<'a, V>,
     indices: &[usize],
     groups: usize,
-    out: &mut PrimitiveBuffers<'a, i64>,
+    out: &mut PrimitiveBuffers<'a, V>,
 ) -> Result<(), Refusal>
     requires { T.GroupsAccumulator.sound sums.old }
 {
-    sums.update_batch(column, indices, &Filter::none(), groups)?;
+    hand_over(sums, column, indices, groups)?;
     sums.evaluate(EmitTo::All, out)
 }
 
 /// The figure of the first group shown.
-fn first_of(out: &PrimitiveBuffers<'_, i64>) -> Option<i64> {
+fn first_of<V: Copy>(out: &PrimitiveBuffers<'_, V>) -> Option<V> {
     out.column().row(0).flatten()
 }
 
