@@ -13,7 +13,7 @@ use crate::writable::Writable;
 use columnar::column::FlatColumn;
 use columnar::filter::Filter;
 use columnar::items::{Items, Mask};
-use columnar::packing::{Packed, Packing, Plain};
+use columnar::packing::{Packed, PackingOf, Plain};
 use columnar::rows::{FlatRows, Rows};
 use std::marker::PhantomData;
 
@@ -100,8 +100,8 @@ fn has_room(figures: usize, places: usize, bits: usize, bytes: usize, masked: bo
 /// Buffers for a figure a row and a mask, over lent memory: how long the answer in them is, and whether it has a mask.
 // The memory is lent and may be longer than the answer, so that its length, and whether the mask is of it, stand beside it.
 #[derive(Drop)]
-pub struct ColumnBuffers<'b, L: Packing> {
-    pub values: &'b mut [L::Slot],
+pub struct ColumnBuffers<'b, L: PackingOf<S>, S> {
+    pub values: &'b mut [S],
     pub bits: &'b mut [u8],
     pub len: usize,
     pub masked: bool,
@@ -110,17 +110,17 @@ pub struct ColumnBuffers<'b, L: Packing> {
 }
 
 /// Buffers for a value a row and a mask.
-pub type PrimitiveBuffers<'b, T> = ColumnBuffers<'b, Plain<T>>;
+pub type PrimitiveBuffers<'b, T> = ColumnBuffers<'b, Plain, T>;
 
 /// Buffers for packed booleans and a mask.
-pub type BooleanBuffers<'b> = ColumnBuffers<'b, Packed>;
+pub type BooleanBuffers<'b> = ColumnBuffers<'b, Packed, u8>;
 
-impl<'b, L: Packing> Buffers<L::Item> for ColumnBuffers<'b, L> {
-    ghost Memory = { Laid L.Slot };
+impl<'b, L: PackingOf<S>, S> Buffers<L::Item> for ColumnBuffers<'b, L, S> {
+    ghost Memory = { Laid S };
 
     ghost memory = { λ b. record { figures = b.values.now; bits = b.bits.now; rows = b.len; masked = b.masked } };
 
-    ghost layout = { flat_layout L.places };
+    ghost layout = { flat_layout L.Packing.places };
 
     ghost room = { room_of };
 
@@ -130,17 +130,17 @@ impl<'b, L: Packing> Buffers<L::Item> for ColumnBuffers<'b, L> {
 
     ghost held = { held_items L.items };
 
-    ghost readable = { readable_items L.holds L.items };
+    ghost readable = { readable_items L.Packing.holds L.items };
 }
 
 /// States that buffers of values have room, are written and are read as the words for values say.
 pub fn values_lie<'b, T: 'b>()
-    ensures { LaidAs ⟦<ColumnBuffers<'b, Plain<T>> as Buffers<T>>⟧.layout ⟦<ColumnBuffers<'b, Plain<T>> as Buffers<T>>⟧.figures ⟦<ColumnBuffers<'b, Plain<T>> as Buffers<T>>⟧.held ⟦<ColumnBuffers<'b, Plain<T>> as Buffers<T>>⟧.readable values_layout stored_values held_values readable_values }
+    ensures { LaidAs ⟦<ColumnBuffers<'b, Plain, T> as Buffers<T>>⟧.layout ⟦<ColumnBuffers<'b, Plain, T> as Buffers<T>>⟧.figures ⟦<ColumnBuffers<'b, Plain, T> as Buffers<T>>⟧.held ⟦<ColumnBuffers<'b, Plain, T> as Buffers<T>>⟧.readable values_layout stored_values held_values readable_values }
 {}
 
 /// The same of packed booleans.
 pub fn booleans_lie<'b>()
-    ensures { LaidAs ⟦<ColumnBuffers<'b, Packed> as Buffers<bool>>⟧.layout ⟦<ColumnBuffers<'b, Packed> as Buffers<bool>>⟧.figures ⟦<ColumnBuffers<'b, Packed> as Buffers<bool>>⟧.held ⟦<ColumnBuffers<'b, Packed> as Buffers<bool>>⟧.readable packed_layout stored_packed held_packed readable_packed }
+    ensures { LaidAs ⟦<ColumnBuffers<'b, Packed, u8> as Buffers<bool>>⟧.layout ⟦<ColumnBuffers<'b, Packed, u8> as Buffers<bool>>⟧.figures ⟦<ColumnBuffers<'b, Packed, u8> as Buffers<bool>>⟧.held ⟦<ColumnBuffers<'b, Packed, u8> as Buffers<bool>>⟧.readable packed_layout stored_packed held_packed readable_packed }
 {}
 
 /// The number of rows, or 0 where so many cannot be read back: one would lack its figure or, under a mask, its bit.
@@ -164,9 +164,9 @@ fn write_mask<M: Source<bool>>(bits: &mut [u8], marks: &M, n: usize, masked: boo
     }
 }
 
-impl<'b, L: Packing> ColumnBuffers<'b, L> {
+impl<'b, L: PackingOf<S>, S> ColumnBuffers<'b, L, S> {
     /// Buffers over the lent memory, with no answer in them yet.
-    pub fn new(values: &'b mut [L::Slot], bits: &'b mut [u8]) -> ColumnBuffers<'b, L>
+    pub fn new(values: &'b mut [S], bits: &'b mut [u8]) -> ColumnBuffers<'b, L, S>
         ensures values { result.values.now ≡ values.old }
         ensures bits { result.bits.now ≡ bits.old }
         ensures len { result.len ≡ 0 }
@@ -182,12 +182,12 @@ impl<'b, L: Packing> ColumnBuffers<'b, L> {
     }
 }
 
-impl<'b, L: Writable> ColumnBuffers<'b, L> {
+impl<'b, L: Writable<S>, S> ColumnBuffers<'b, L, S> {
     /// The column that lies in the buffers: what an answer has left in them, or no rows where they cannot be read.
-    pub fn column(&self) -> FlatColumn<'_, L>
-        ensures { rows_of result ≡ cells (readable_items L.Packing.holds L.Packing.items (record { figures = self.now.values.now; bits = self.now.bits.now; rows = self.now.len; masked = self.now.masked })) }
+    pub fn column(&self) -> FlatColumn<'_, L, S>
+        ensures { rows_of L.PackingOf.items result ≡ cells (readable_items L.Packing.holds L.PackingOf.items (record { figures = self.now.values.now; bits = self.now.bits.now; rows = self.now.len; masked = self.now.masked })) }
     {
-        let slots: &[L::Slot] = self.values;
+        let slots: &[S] = self.values;
         let bits: &[u8] = self.bits;
         let len = readable_rows(
             L::lacks(slots.len(), self.len),
@@ -195,10 +195,11 @@ impl<'b, L: Writable> ColumnBuffers<'b, L> {
             self.masked,
             self.len,
         );
-        let values: Items<'_, L> = Items {
+        let values: Items<'_, L, S> = Items {
             slots,
             start: 0,
             len,
+            packing: PhantomData,
         };
         if !self.masked {
             return FlatColumn::plain(values);
@@ -207,12 +208,13 @@ impl<'b, L: Writable> ColumnBuffers<'b, L> {
             slots: bits,
             start: 0,
             len,
+            packing: PhantomData,
         };
         FlatColumn::new(values, mask).unwrap()
     }
 }
 
-impl<'b, L: Writable> FlatBuffers<L::Item> for ColumnBuffers<'b, L>
+impl<'b, L: Writable<S>, S> FlatBuffers<L::Item> for ColumnBuffers<'b, L, S>
 where
     L::Item: Copy,
 {

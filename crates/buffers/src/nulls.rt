@@ -3,7 +3,7 @@ ghost use Rattle.std.specs.List.{range_with_len};
 ghost use Rattle.std.specs.Result.{result_err};
 ghost use Rattle.columnar.specs.declared.refusal.Refusal.TheVariants.{ShortBuffer};
 ghost use Rattle.columnar.specs.Cells.{ticked};
-ghost use Rattle.columnar.specs.Packed.{bit_at, bytes_for, packed};
+ghost use Rattle.columnar.specs.Packed.{bit_at, bytes_for, packed, unpacked};
 ghost use Rattle.columnar.specs.Columns.{rows_of};
 ghost use Rattle.buffers.specs.Memory.{front};
 
@@ -12,6 +12,7 @@ use crate::source::Source;
 use columnar::column::BooleanColumn;
 use columnar::items::{Items, Mask};
 use columnar::refusal::Refusal;
+use std::marker::PhantomData;
 
 /// Two rows of packed bits, anded place by place.
 #[derive(Drop)]
@@ -34,7 +35,7 @@ impl<'a> Source<bool> for Anded<'a> {
 /// written where there are too few bytes.
 pub fn filter_to_validity(filter: &BooleanColumn<'_>, out: &mut [u8]) -> Result<(), Refusal>
     ensures refused { result_err result ≡ (if nat_lt (length out.old) (bytes_for filter.now.values.len) then Some ShortBuffer else None) }
-    ensures out { out.new ≡ (if nat_lt (length out.old) (bytes_for filter.now.values.len) then out.old else front (packed (ticked (rows_of filter.now) filter.now.values.len)) out.old) }
+    ensures out { out.new ≡ (if nat_lt (length out.old) (bytes_for filter.now.values.len) then out.old else front (packed (ticked (rows_of unpacked filter.now) filter.now.values.len)) out.old) }
 {
     let values = filter.values;
     let len = values.len;
@@ -49,6 +50,7 @@ pub fn filter_to_validity(filter: &BooleanColumn<'_>, out: &mut [u8]) -> Result<
         slots: bytes,
         start: filter.validity.start,
         len,
+        packing: PhantomData,
     };
     write_bits(out, &Anded { values, mask }, len);
     Ok(())

@@ -15,8 +15,8 @@ pub trait Source<X> {
 }
 
 /// Lent items, by place.
-impl<'a, L: Readable> Source<L::Item> for Items<'a, L> {
-    ghost items = { items_of };
+impl<'a, L: Readable<S>, S> Source<L::Item> for Items<'a, L, S> {
+    ghost items = { items_of L.PackingOf.items };
 
     fn get(&self, j: usize) -> L::Item {
         Items::get(self, j)

@@ -8,7 +8,7 @@ use crate::source::Source;
 use columnar::packing::{Packed, Plain, Readable};
 
 /// A packing into whose slots an answer is written.
-pub trait Writable: Readable {
+pub trait Writable<S>: Readable<S> {
     fn places(rows: usize) -> usize
         ensures { result ≡ Self.Packing.places rows };
 
@@ -17,13 +17,13 @@ pub trait Writable: Readable {
         ensures { result ≡ nat_lt (Self.Packing.holds slots) rows };
 
     /// Writes the first n items to the front; the slots past them stay.
-    fn write<S: Source<Self::Item>>(slots: &mut [Self::Slot], items: &S, n: usize)
-        requires within { n ≤ length (S.Source.items items.now) }
+    fn write<F: Source<Self::Item>>(slots: &mut [S], items: &F, n: usize)
+        requires within { n ≤ length (F.Source.items items.now) }
         requires room { Self.Packing.places n ≤ length slots.old }
-        ensures { slots.new ≡ front (Self.Packing.laid (take n (S.Source.items items.now))) slots.old };
+        ensures { slots.new ≡ front (Self.PackingOf.laid (take n (F.Source.items items.now))) slots.old };
 }
 
-impl<T: Copy> Writable for Plain<T> {
+impl<T: Copy> Writable<T> for Plain {
     fn places(rows: usize) -> usize {
         rows
     }
@@ -32,12 +32,12 @@ impl<T: Copy> Writable for Plain<T> {
         rows > slots
     }
 
-    fn write<S: Source<T>>(slots: &mut [T], items: &S, n: usize) {
+    fn write<F: Source<T>>(slots: &mut [T], items: &F, n: usize) {
         write_front(slots, n, |j| items.get(j));
     }
 }
 
-impl Writable for Packed {
+impl Writable<u8> for Packed {
     fn places(rows: usize) -> usize {
         bytes_for(rows)
     }
@@ -47,7 +47,7 @@ impl Writable for Packed {
         rows as u128 > 8 * (slots as u128)
     }
 
-    fn write<S: Source<bool>>(slots: &mut [u8], items: &S, n: usize) {
+    fn write<F: Source<bool>>(slots: &mut [u8], items: &F, n: usize) {
         write_bits(slots, items, n);
     }
 }

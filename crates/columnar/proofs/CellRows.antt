@@ -63,6 +63,10 @@ module _ {V : Type 0} (xs : List V) (n : ℕ) (count : length xs ≡ n) where
   pub nulls_cells : (p : ℕ → Bool) → count_by (λ j. not (p j)) (range_with_len 0 n) ≡ nulls (cells_from p 0 xs)
   nulls_cells p = ap (λ k. count_by (λ j. not (p j)) (range_with_len 0 k)) (sym count) ∙ sym (nulls_cells_from p 0 xs)
 
+-- which rows are null does not depend on what lies in them
+pub same_nulls : {V W : Type 0} (p : ℕ → Bool) (xs : List V) (ys : List W) → length xs ≡ length ys → nulls (cells_from p 0 xs) ≡ nulls (cells_from p 0 ys)
+same_nulls p xs ys e = nulls_cells_from p 0 xs ∙ ap (λ n. count_by (λ j. not (p j)) (range_with_len 0 n)) e ∙ sym (nulls_cells_from p 0 ys)
+
 -- a row of a column, where it is one of those that there are
 module _ {V : Type 0} (p : ℕ → Bool) (xs : List V) (j : ℕ) (within : j < length (cells_from p 0 xs)) where
   pub row_within : j < length xs

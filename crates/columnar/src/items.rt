@@ -7,33 +7,35 @@ ghost use Rattle.columnar.specs.Refusals.{bits_refusal};
 use crate::packing::{Packed, Packing, Plain, Readable};
 use crate::refusal::Refusal;
 use std::alloc::AllocError;
+use std::marker::PhantomData;
 
-/// Items of a column, lent: those of `len` rows from the place `start` on.
+/// Items of a column, lent, in slots of type `S`: those of `len` rows from the place `start` on.
 // A part of a slice would not do: packed rows begin and end within a byte.
-pub struct Items<'a, L: Packing> {
-    pub slots: &'a [L::Slot],
+pub struct Items<'a, L: Packing, S> {
+    pub slots: &'a [S],
     pub start: usize,
     pub len: usize,
+    pub packing: PhantomData<L>,
     ghost fits: { start + len ≤ L.holds (length slots.now) },
 }
 
 // `Clone` cannot be derived for a generic struct with a ghost field.
-impl<'a, L: Packing> Clone for Items<'a, L> {
+impl<'a, L: Packing, S> Clone for Items<'a, L, S> {
     ghost is_clone = { λ old new. new ≡ old };
 
     ghost is_infallible = { λ _. ⊤ };
 
-    fn clone(&self) -> Result<Items<'a, L>, AllocError> {
+    fn clone(&self) -> Result<Items<'a, L, S>, AllocError> {
         Ok(*self)
     }
 }
 
-impl<'a, L: Packing> Copy for Items<'a, L> {}
+impl<'a, L: Packing, S> Copy for Items<'a, L, S> {}
 
 /// Packed bits, lent: bit `start + j` of the bytes is row j.
-pub type Mask<'a> = Items<'a, Packed>;
+pub type Mask<'a> = Items<'a, Packed, u8>;
 
-impl<'a> Items<'a, Packed> {
+impl<'a> Items<'a, Packed, u8> {
     /// A view, or a refusal where its last bit would lie past the bytes.
     pub fn new(bytes: &'a [u8], start: usize, len: usize) -> Result<Mask<'a>, Refusal>
         ensures refused { result_err result ≡ bits_refusal (length bytes.now) start len }
@@ -49,6 +51,7 @@ impl<'a> Items<'a, Packed> {
             slots: bytes,
             start,
             len,
+            packing: PhantomData,
         })
     }
 
@@ -61,19 +64,20 @@ impl<'a> Items<'a, Packed> {
 }
 
 /// All of a slice.
-impl<'a, T> From<&'a [T]> for Items<'a, Plain<T>> {
+impl<'a, T> From<&'a [T]> for Items<'a, Plain, T> {
     ghost from_gives = { λ xs v. (v.slots.now ≡ xs.now) × ((v.start ≡ 0) × (v.len ≡ length xs.now)) };
 
-    fn from(values: &'a [T]) -> Items<'a, Plain<T>> {
+    fn from(values: &'a [T]) -> Items<'a, Plain, T> {
         Items {
             slots: values,
             start: 0,
             len: values.len(),
+            packing: PhantomData,
         }
     }
 }
 
-impl<'a, L: Packing> Items<'a, L> {
+impl<'a, L: Packing, S> Items<'a, L, S> {
     /// The number of rows.
     pub fn len(&self) -> usize
         ensures { result ≡ self.now.len }
@@ -82,20 +86,20 @@ impl<'a, L: Packing> Items<'a, L> {
     }
 }
 
-impl<'a, L: Readable> Items<'a, L> {
+impl<'a, L: Readable<S>, S> Items<'a, L, S> {
     ghost use Rattle.columnar.specs.Columns.{items_of};
 
     /// Item j, of those that there are.
     pub fn get(&self, j: usize) -> L::Item
         requires { j < self.now.len }
-        ensures { result ≡ slice_index_or (items_of self.now) j result }
+        ensures { result ≡ slice_index_or (items_of L.PackingOf.items self.now) j result }
     {
         L::item(self.slots, self.start, j)
     }
 
     /// Row j, absent past the end.
     pub fn row(&self, j: usize) -> Option<L::Item>
-        ensures { result ≡ slice_get (items_of self.now) j }
+        ensures { result ≡ slice_get (items_of L.PackingOf.items self.now) j }
     {
         if j >= self.len {
             return None;

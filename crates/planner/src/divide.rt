@@ -31,7 +31,7 @@ pub struct Division {
 // The buffers borrow the memory, so that what they say of the answer is kept beside it, and the groups as a call takes them.
 #[derive(Drop)]
 struct States {
-    memory: Memory<Plain<i64>>,
+    memory: Memory<Plain, i64>,
     len: usize,
     masked: bool,
     indices: Vec<usize>,
@@ -52,7 +52,7 @@ impl States {
 /// A part as an accumulator is handed it.
 #[derive(Drop)]
 struct Share<'x> {
-    series: Series<Plain<i64>>,
+    series: Series<Plain, i64>,
     ticks: &'x Ticks,
     part: &'x Part,
 }
@@ -91,7 +91,7 @@ fn feed_part<'a, T: GroupsAccumulator<'a, Values = PrimitiveColumn<'a, i64>>>(
 /// A part's state rows, to be merged into these groups.
 fn states_of(heap: Global, share: &Share<'_>, indices: Vec<usize>) -> Result<States, Fault> {
     let groups = share.part.groups.len();
-    let mut memory = Memory::<Plain<i64>>::new(heap, 0i64, groups)?;
+    let mut memory = Memory::<Plain, i64>::new(heap, 0i64, groups)?;
     let (mut acc, mut out) = memory.lend(Sum);
     feed_part(&mut acc, share)?;
     acc.peek(EmitTo::All, &mut out)?;
@@ -121,7 +121,7 @@ fn merge_states<'a, T: GroupsAccumulator<'a, States = PrimitiveColumn<'a, i64>>>
 /// What a part's groups show once the state rows are merged into them.
 fn merged(heap: Global, share: &Share<'_>, states: &States) -> Result<Vec<Option<i64>>, Fault> {
     let groups = share.part.groups.len();
-    let mut memory = Memory::<Plain<i64>>::new(heap, 0i64, groups)?;
+    let mut memory = Memory::<Plain, i64>::new(heap, 0i64, groups)?;
     let (mut acc, mut out) = memory.lend(Sum);
     feed_part(&mut acc, share)?;
     merge_states(&mut acc, states, groups)?;

@@ -22,30 +22,29 @@ use walk::columns::Accumulate;
 /// Memory to lend: an accumulator's, and an answer's.
 // Lists side by side, as the library borrows them.
 #[derive(Drop)]
-pub struct Memory<L: Writable> {
+pub struct Memory<L: Writable<S>, S> {
     pub values: Vec<L::Item>,
     pub marks: Vec<bool>,
-    pub shown: Vec<L::Slot>,
+    pub shown: Vec<S>,
     pub bits: Vec<u8>,
 }
 
-impl<L: Writable> Memory<L>
+impl<L: Writable<S>, S: Clone + Default + Drop> Memory<L, S>
 where
     L::Item: Copy,
-    L::Slot: Clone + Default + Drop,
 {
     /// For so many groups.
-    pub fn new(heap: Global, start: L::Item, groups: usize) -> Result<Memory<L>, AllocError> {
+    pub fn new(heap: Global, start: L::Item, groups: usize) -> Result<Memory<L, S>, AllocError> {
         Ok(Memory {
             values: vec![in heap; start; groups]?,
             marks: vec![in heap; false; groups]?,
-            shown: vec![in heap; L::Slot::default(); L::places(groups)]?,
+            shown: vec![in heap; S::default(); L::places(groups)]?,
             bits: vec![in heap; 0u8; bytes_for(groups)]?,
         })
     }
 }
 
-impl<L: Writable> Memory<L>
+impl<L: Writable<S>, S> Memory<L, S>
 where
     L::Item: Copy,
 {
@@ -53,7 +52,10 @@ where
     pub fn lend<O: Operation<L::Item>>(
         &mut self,
         op: O,
-    ) -> (OpGroupsAccumulator<'_, L::Item, O, L>, ColumnBuffers<'_, L>)
+    ) -> (
+        OpGroupsAccumulator<'_, L::Item, O, L, S>,
+        ColumnBuffers<'_, L, S>,
+    )
         ensures { Sound O.Operation.start result.0 }
     {
         (
@@ -66,16 +68,20 @@ where
 // That an accumulator is sound stands at each function: a struct with this as its ghost field is not covered, as a bound
 // of it has ghost members.
 /// Hands a batch over.
-pub fn feed<'a, L: Writable, T: GroupsAccumulator<'a, Values = FlatColumn<'a, L>>>(
+pub fn feed<
+    'a,
+    S: Clone + Default + Drop,
+    L: Writable<S>,
+    T: GroupsAccumulator<'a, Values = FlatColumn<'a, L, S>>,
+>(
     acc: &mut T,
-    series: &'a Series<L>,
+    series: &'a Series<L, S>,
     ticks: &Ticks,
     indices: &[usize],
     turn: Turn,
 ) -> Result<(), Refusal>
 where
     L::Item: Copy,
-    L::Slot: Clone + Default + Drop,
     requires { T.GroupsAccumulator.sound acc.old }
     ensures { T.GroupsAccumulator.sound acc.new }
 {
@@ -86,15 +92,14 @@ where
 
 /// Hands a batch over, unless it was refused when the plan was made.
 // A function of its own: that the accumulator is sound is lost where an `if` joins before a call.
-fn feed_counted<'a, L: Writable, T: GroupsAccumulator<'a, Values = FlatColumn<'a, L>>>(
-    acc: &mut T,
-    series: &'a Series<L>,
-    plan: &Plan,
-    turn: Turn,
-) -> Result<(), Refusal>
+fn feed_counted<
+    'a,
+    S: Clone + Default + Drop,
+    L: Writable<S>,
+    T: GroupsAccumulator<'a, Values = FlatColumn<'a, L, S>>,
+>(acc: &mut T, series: &'a Series<L, S>, plan: &Plan, turn: Turn) -> Result<(), Refusal>
 where
     L::Item: Copy,
-    L::Slot: Clone + Default + Drop,
     requires { T.GroupsAccumulator.sound acc.old }
     ensures { T.GroupsAccumulator.sound acc.new }
 {
@@ -105,8 +110,8 @@ where
 }
 
 /// Reads an answer back from its buffers.
-fn take_answer<'a, L: Writable>(
-    out: &ColumnBuffers<'a, L>,
+fn take_answer<'a, S, L: Writable<S>>(
+    out: &ColumnBuffers<'a, L, S>,
     shown: &mut Vec<Option<L::Item>>,
 ) -> Result<(), Fault>
 where
@@ -118,10 +123,10 @@ where
 }
 
 /// Closes groups, and adds what they show.
-pub fn close<'a, L: Writable, T: GroupsAccumulator<'a, Answers = ColumnBuffers<'a, L>>>(
+pub fn close<'a, S, L: Writable<S>, T: GroupsAccumulator<'a, Answers = ColumnBuffers<'a, L, S>>>(
     acc: &mut T,
     emit_to: EmitTo,
-    out: &mut ColumnBuffers<'a, L>,
+    out: &mut ColumnBuffers<'a, L, S>,
     shown: &mut Vec<Option<L::Item>>,
 ) -> Result<(), Fault>
 where
@@ -136,7 +141,8 @@ where
 /// Each group's figure, in the order of their opening, by the accumulator that makes the plan: what it refuses is handed
 /// to none.
 pub fn lead_with<
-    L: Writable + Accumulate,
+    L: Writable<S> + Accumulate<S>,
+    S: Clone + Default + Drop,
     O: Operation<L::Item> + Drop,
     F: Fn(&Row) -> Option<L::Item>,
 >(
@@ -148,12 +154,11 @@ pub fn lead_with<
 ) -> Result<Vec<Option<L::Item>>, Fault>
 where
     L::Item: Copy,
-    L::Slot: Clone + Default + Drop,
     requires { F.IsAlwaysCallable cell }
 {
     let start = O::starting_value();
-    let series: Series<L> = Series::pack(heap, rows, cell, start)?;
-    let mut memory: Memory<L> = Memory::new(heap, start, plan.most_groups)?;
+    let series: Series<L, S> = Series::pack(heap, rows, cell, start)?;
+    let mut memory: Memory<L, S> = Memory::new(heap, start, plan.most_groups)?;
     let (mut acc, mut out) = memory.lend(op);
     let mut shown = Vec::new(heap);
     for part in rows.chunks(plan.size.get()) {
@@ -172,18 +177,18 @@ where
 // Alike but for its loop: one function for both would take the loop as a closure over accumulator, buffers and plan, and
 // be no plainer.
 pub fn follow_with<
-    L: Writable + Accumulate,
+    L: Writable<S> + Accumulate<S>,
+    S: Clone + Default + Drop,
     O: Operation<L::Item> + Drop,
     F: Fn(&Row) -> Option<L::Item>,
 >(heap: Global, op: O, rows: &[Row], cell: F, plan: &Plan) -> Result<Vec<Option<L::Item>>, Fault>
 where
     L::Item: Copy,
-    L::Slot: Clone + Default + Drop,
     requires { F.IsAlwaysCallable cell }
 {
     let start = O::starting_value();
-    let series: Series<L> = Series::pack(heap, rows, cell, start)?;
-    let mut memory: Memory<L> = Memory::new(heap, start, plan.most_groups)?;
+    let series: Series<L, S> = Series::pack(heap, rows, cell, start)?;
+    let mut memory: Memory<L, S> = Memory::new(heap, start, plan.most_groups)?;
     let (mut acc, mut out) = memory.lend(op);
     let mut shown = Vec::new(heap);
     for turn in plan.turns.iter() {

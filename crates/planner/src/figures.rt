@@ -28,35 +28,35 @@ impl Figures {
     // The heap is a handle of its own, and a plan is made of a day: neither is part of it.
     pub fn new(heap: Global, day: &Day, plan: &mut Plan) -> Result<Figures, Fault> {
         let rows = day.rows.as_slice();
-        let grams = lead_with::<Plain<i64>, _, _>(heap, Sum, rows, |row| row.grams, plan)?;
+        let grams = lead_with::<Plain, i64, _, _>(heap, Sum, rows, |row| row.grams, plan)?;
         Ok(Figures {
-            all_signed: follow_with::<Packed, _, _>(heap, And, rows, |row| row.signed, plan)?,
-            any_signed: follow_with::<Packed, _, _>(heap, Or, rows, |row| row.signed, plan)?,
+            all_signed: follow_with::<Packed, u8, _, _>(heap, And, rows, |row| row.signed, plan)?,
+            any_signed: follow_with::<Packed, u8, _, _>(heap, Or, rows, |row| row.signed, plan)?,
             grams,
-            parcels: follow_with::<Plain<u64>, _, _>(heap, Sum, rows, |row| row.parcels, plan)?,
-            least_floor: follow_with::<Plain<i32>, _, _>(heap, Min, rows, |row| row.floor, plan)?,
-            greatest_floor: follow_with::<Plain<i32>, _, _>(
+            parcels: follow_with::<Plain, u64, _, _>(heap, Sum, rows, |row| row.parcels, plan)?,
+            least_floor: follow_with::<Plain, i32, _, _>(heap, Min, rows, |row| row.floor, plan)?,
+            greatest_floor: follow_with::<Plain, i32, _, _>(
                 heap,
                 Max,
                 rows,
                 |row| row.floor,
                 plan,
             )?,
-            least_altitude: follow_with::<Plain<i64>, _, _>(
+            least_altitude: follow_with::<Plain, i64, _, _>(
                 heap,
                 Min,
                 rows,
                 |row| row.altitude,
                 plan,
             )?,
-            greatest_altitude: follow_with::<Plain<i64>, _, _>(
+            greatest_altitude: follow_with::<Plain, i64, _, _>(
                 heap,
                 Max,
                 rows,
                 |row| row.altitude,
                 plan,
             )?,
-            latest: follow_with::<Plain<Stamp>, _, _>(heap, Latest, rows, |row| row.moment, plan)?,
+            latest: follow_with::<Plain, Stamp, _, _>(heap, Latest, rows, |row| row.moment, plan)?,
         })
     }
 }

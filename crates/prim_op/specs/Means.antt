@@ -15,15 +15,15 @@ use Rattle.prim_op.specs.Kept.{credits_of, Unset}
 abbrev pub kind_of : {O E : Type 0} → operation.Ghosts O E → Kind E E E
 kind_of o = primitive o.start o.rule
 
-module _ {E O L : Type 0} where
+module _ {E O L S : Type 0} where
   -- the marks in force, and the values, of the kept groups
-  abbrev pub marks_of : OpGroupsAccumulator E O L → List Bool
+  abbrev pub marks_of : OpGroupsAccumulator E O L S → List Bool
   marks_of s = kept_marks s.marks
 
-  abbrev pub values_of : OpGroupsAccumulator E O L → List E
+  abbrev pub values_of : OpGroupsAccumulator E O L S → List E
   values_of s = take s.marks.null_state.kept s.values.now
 
-  abbrev pub meaning_of : OpGroupsAccumulator E O L → Meaning (Option E)
+  abbrev pub meaning_of : OpGroupsAccumulator E O L S → Meaning (Option E)
   meaning_of s =
       record {
         credits = credits_of (marks_of s) (values_of s);
@@ -33,7 +33,7 @@ module _ {E O L : Type 0} where
         most_pairs = 0;
       }
 
-  pub record Sound (start : E) (s : OpGroupsAccumulator E O L) : Type 0 where
+  pub record Sound (start : E) (s : OpGroupsAccumulator E O L S) : Type 0 where
     pub kept_limit : s.marks.null_state.kept ≤ s.limits.groups
     pub limit_values : s.limits.groups ≤ length s.values.now
     pub limit_marks : s.limits.groups ≤ length s.marks.slots.now

@@ -32,15 +32,15 @@ use walk::columns::Accumulate;
 /// boolean kinds, which differ in how the items of rows and answers are packed.
 // Values and marks lie side by side, as the memory is lent.
 #[derive(Drop)]
-pub struct OpGroupsAccumulator<'m, T, O, L> {
+pub struct OpGroupsAccumulator<'m, T, O, L, S> {
     pub(crate) values: &'m mut [T],
     pub(crate) marks: Marks<'m>,
     pub(crate) limits: BatchLimits,
     pub(crate) op: O,
-    pub(crate) packing: PhantomData<L>,
+    pub(crate) packing: PhantomData<(L, S)>,
 }
 
-impl<'m, T: Copy, O: Operation<T>, L> OpGroupsAccumulator<'m, T, O, L> {
+impl<'m, T: Copy, O: Operation<T>, L, S> OpGroupsAccumulator<'m, T, O, L, S> {
     /// An accumulator of no groups, over lent memory with a place and a mark for each group that it may keep. Its limits are
     /// the least of the number asked for, the cap and, for groups, the places given.
     pub fn new(
@@ -49,7 +49,7 @@ impl<'m, T: Copy, O: Operation<T>, L> OpGroupsAccumulator<'m, T, O, L> {
         op: O,
         max_rows: usize,
         max_groups: usize,
-    ) -> OpGroupsAccumulator<'m, T, O, L>
+    ) -> OpGroupsAccumulator<'m, T, O, L, S>
         ensures sound { Sound O.Operation.start result }
         ensures fresh { meaning_of result ≡ fresh (kind_of O.Operation) (record { rows = min max_rows cap; groups = min (min max_groups cap) (min (length values.old) (length marks.old)); pairs = 0 }) }
     {
@@ -68,7 +68,7 @@ impl<'m, T: Copy, O: Operation<T>, L> OpGroupsAccumulator<'m, T, O, L> {
 }
 
 /// A visit combines the value into its group's, and marks the group once the switch is marked.
-impl<'m, T: Copy, O: Operation<T>, L> Visitor<T> for OpGroupsAccumulator<'m, T, O, L> {
+impl<'m, T: Copy, O: Operation<T>, L, S> Visitor<T> for OpGroupsAccumulator<'m, T, O, L, S> {
     ghost Model = { List T × (List Bool × Bool) };
 
     ghost model = { λ s. (s.values.now, (s.marks.slots.now, is_plain s.marks.null_state.seen_values)) };
@@ -86,11 +86,12 @@ impl<'m, T: Copy, O: Operation<T>, L> Visitor<T> for OpGroupsAccumulator<'m, T, 
     }
 }
 
-impl<'m, T: Copy, O: Operation<T>, L: Writable<Item = T> + Accumulate> OpGroupsAccumulator<
+impl<'m, T: Copy, O: Operation<T>, L: Writable<S, Item = T> + Accumulate<S>, S> OpGroupsAccumulator<
     'm,
     T,
     O,
     L,
+    S,
 > {
     /// Opens groups up to the total: the new ones have the start value and no mark.
     fn open(&mut self, total: usize, turns: bool)
@@ -114,15 +115,15 @@ impl<'m, T: Copy, O: Operation<T>, L: Writable<Item = T> + Accumulate> OpGroupsA
     /// Joins each row's credit to its group's, after opening groups up to the total; or a refusal, and nothing changed.
     pub(crate) fn update_rows(
         &mut self,
-        values: &FlatColumn<'_, L>,
+        values: &FlatColumn<'_, L, S>,
         group_indices: &[usize],
         opt_filter: &Filter<'_>,
         total: usize,
     ) -> Result<(), Refusal>
         requires { Sound O.Operation.start self.old }
         ensures stays { Sound O.Operation.start self.new }
-        ensures answer { result_err result ≡ update_refusal (kind_of O.Operation) (meaning_of self.old) (rows_of values.now) (ticks opt_filter.now) group_indices.now total }
-        ensures after { meaning_of self.new ≡ unless (result_err result) (meaning_of self.old) (updated (kind_of O.Operation) (meaning_of self.old) (rows_of values.now) (ticks opt_filter.now) group_indices.now total) }
+        ensures answer { result_err result ≡ update_refusal (kind_of O.Operation) (meaning_of self.old) (rows_of L.PackingOf.items values.now) (ticks opt_filter.now) group_indices.now total }
+        ensures after { meaning_of self.new ≡ unless (result_err result) (meaning_of self.old) (updated (kind_of O.Operation) (meaning_of self.old) (rows_of L.PackingOf.items values.now) (ticks opt_filter.now) group_indices.now total) }
     {
         let kept = self.marks.null_state.kept;
         let limits = self.limits;
@@ -195,14 +196,14 @@ impl<'m, T: Copy, O: Operation<T>, L: Writable<Item = T> + Accumulate> OpGroupsA
     /// Joins each state row's credit to its group's: a state row is a row, and no filter is given.
     pub(crate) fn merge_rows(
         &mut self,
-        values: &FlatColumn<'_, L>,
+        values: &FlatColumn<'_, L, S>,
         group_indices: &[usize],
         total: usize,
     ) -> Result<(), Refusal>
         requires { Sound O.Operation.start self.old }
         ensures stays { Sound O.Operation.start self.new }
-        ensures answer { result_err result ≡ merge_refusal (kind_of O.Operation) (meaning_of self.old) (rows_of values.now) group_indices.now total }
-        ensures after { meaning_of self.new ≡ unless (result_err result) (meaning_of self.old) (merged (kind_of O.Operation) (meaning_of self.old) (rows_of values.now) group_indices.now total) }
+        ensures answer { result_err result ≡ merge_refusal (kind_of O.Operation) (meaning_of self.old) (rows_of L.PackingOf.items values.now) group_indices.now total }
+        ensures after { meaning_of self.new ≡ unless (result_err result) (meaning_of self.old) (merged (kind_of O.Operation) (meaning_of self.old) (rows_of L.PackingOf.items values.now) group_indices.now total) }
     {
         let none = Filter::none();
         self.update_rows(values, group_indices, &none, total)
@@ -254,24 +255,22 @@ impl<
     'm,
     T: Copy + 'a,
     O: Operation<T>,
-    L: Writable<Item = T> + Accumulate + 'a,
-> GroupsAccumulator<'a> for OpGroupsAccumulator<'m, T, O, L>
-where
-    L::Slot: 'a,
-{
+    L: Writable<S, Item = T> + Accumulate<S> + 'a,
+    S: 'a,
+> GroupsAccumulator<'a> for OpGroupsAccumulator<'m, T, O, L, S> {
     type Value = T;
 
     type State = T;
 
     type Out = T;
 
-    type Values = FlatColumn<'a, L>;
+    type Values = FlatColumn<'a, L, S>;
 
-    type States = FlatColumn<'a, L>;
+    type States = FlatColumn<'a, L, S>;
 
-    type Answers = ColumnBuffers<'a, L>;
+    type Answers = ColumnBuffers<'a, L, S>;
 
-    type StateBuffers = ColumnBuffers<'a, L>;
+    type StateBuffers = ColumnBuffers<'a, L, S>;
 
     ghost kind = { kind_of O.Operation };
 
@@ -283,7 +282,7 @@ where
 
     fn update_batch(
         &mut self,
-        values: &FlatColumn<'a, L>,
+        values: &FlatColumn<'a, L, S>,
         group_indices: &[usize],
         opt_filter: &Filter<'_>,
         total_num_groups: usize,
@@ -293,7 +292,7 @@ where
 
     fn merge_batch(
         &mut self,
-        values: &FlatColumn<'a, L>,
+        values: &FlatColumn<'a, L, S>,
         group_indices: &[usize],
         total_num_groups: usize,
     ) -> Result<(), Refusal> {
@@ -302,7 +301,7 @@ where
 
     fn merge_written(
         &mut self,
-        written: &ColumnBuffers<'a, L>,
+        written: &ColumnBuffers<'a, L, S>,
         group_indices: &[usize],
         total_num_groups: usize,
     ) -> Result<(), Refusal> {
@@ -312,18 +311,22 @@ where
 
     fn convert_to_state(
         &self,
-        values: &FlatColumn<'a, L>,
+        values: &FlatColumn<'a, L, S>,
         opt_filter: &Filter<'_>,
-        out: &mut ColumnBuffers<'a, L>,
+        out: &mut ColumnBuffers<'a, L, S>,
     ) -> Result<(), Refusal> {
         self.convert_rows(values, opt_filter, out)
     }
 
-    fn evaluate(&mut self, emit_to: EmitTo, out: &mut ColumnBuffers<'a, L>) -> Result<(), Refusal> {
+    fn evaluate(
+        &mut self,
+        emit_to: EmitTo,
+        out: &mut ColumnBuffers<'a, L, S>,
+    ) -> Result<(), Refusal> {
         self.emit(emit_to, out)
     }
 
-    fn peek(&self, emit_to: EmitTo, out: &mut ColumnBuffers<'a, L>) -> Result<(), Refusal> {
+    fn peek(&self, emit_to: EmitTo, out: &mut ColumnBuffers<'a, L, S>) -> Result<(), Refusal> {
         self.show(emit_to, out)
     }
 
@@ -332,10 +335,13 @@ where
     }
 }
 
-impl<'a, 'm, T: Copy + 'a, O: Operation<T>, L: Writable<Item = T> + Accumulate + 'a> Commuting<'a>
-    for OpGroupsAccumulator<'m, T, O, L>
-where
-    L::Slot: 'a,
-{
+impl<
+    'a,
+    'm,
+    T: Copy + 'a,
+    O: Operation<T>,
+    L: Writable<S, Item = T> + Accumulate<S> + 'a,
+    S: 'a,
+> Commuting<'a> for OpGroupsAccumulator<'m, T, O, L, S> {
     fn commutes() {}
 }

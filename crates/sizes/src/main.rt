@@ -13,17 +13,23 @@ use prim_op::prim_op::PrimitiveGroupsAccumulator;
 use std::alloc::{AllocError, Global};
 use std::io;
 
-/// One batch into an accumulator, of values of any type.
+/// Values of any type, and the group of each, of so many groups in all.
+#[derive(Drop)]
+struct Batch<'a, V> {
+    column: PrimitiveColumn<'a, V>,
+    indices: &'a [usize],
+    groups: usize,
+}
+
+/// One batch into an accumulator.
 fn hand_over<'a, V: Copy, T: GroupsAccumulator<'a, Values = PrimitiveColumn<'a, V>>>(
     acc: &mut T,
-    column: &PrimitiveColumn<'a, V>,
-    indices: &[usize],
-    groups: usize,
+    batch: &Batch<'a, V>,
 ) -> Result<(), Refusal>
     requires { T.GroupsAccumulator.sound acc.old }
     ensures { T.GroupsAccumulator.sound acc.new }
 {
-    acc.update_batch(column, indices, &Filter::none(), groups)
+    acc.update_batch(&batch.column, batch.indices, &Filter::none(), batch.groups)
 }
 
 /// One batch into an accumulator, and all its groups shown.
@@ -31,16 +37,10 @@ fn add_up<
     'a,
     V: Copy,
     T: GroupsAccumulator<'a, Values = PrimitiveColumn<'a, V>, Answers = PrimitiveBuffers<'a, V>>,
->(
-    sums: &mut T,
-    column: &PrimitiveColumn<'a, V>,
-    indices: &[usize],
-    groups: usize,
-    out: &mut PrimitiveBuffers<'a, V>,
-) -> Result<(), Refusal>
+>(sums: &mut T, batch: &Batch<'a, V>, out: &mut PrimitiveBuffers<'a, V>) -> Result<(), Refusal>
     requires { T.GroupsAccumulator.sound sums.old }
 {
-    hand_over(sums, column, indices, groups)?;
+    hand_over(sums, batch)?;
     sums.evaluate(EmitTo::All, out)
 }
 
@@ -68,9 +68,13 @@ fn sum_of_first(
         100_000,
         100_000,
     );
-    let column = PrimitiveColumn::plain(Items::from(ones.as_slice()));
+    let batch = Batch {
+        column: PrimitiveColumn::plain(Items::from(ones.as_slice())),
+        indices: indices.as_slice(),
+        groups,
+    };
     let mut out = PrimitiveBuffers::new(shown.as_mut_slice(), bits.as_mut_slice());
-    let added = add_up(&mut sums, &column, indices.as_slice(), groups, &mut out);
+    let added = add_up(&mut sums, &batch, &mut out);
     Ok(added.map(|()| first_of(&out)))
 }
 

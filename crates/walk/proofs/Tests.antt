@@ -2,10 +2,11 @@
 use Rattle.std.proofs.Common.{◌≡◌, ℕ, zero, suc, ◌+◌, ◌*◌, ◌≤◌, Bool, true, false, cond, not, ◌&&◌, List, [], ◌∷◌, map, length, IfSome, Some, None, Option, sym, refl, ap, ap₂, ◌∙◌, subst, arith}
 use Rattle.std.specs.List.{range_with_len, All}
 use Rattle.std.proofs.lemmas.List.Sums.{sum_by-cons}
+use Rattle.std.proofs.lemmas.List.FromFn.{length-range_with_len}
 use Rattle.columnar.specs.Cells.{Cell, cell, nulls, passes, all_pass, ticked}
 use Rattle.columnar.specs.Packed.{bit_at, unpacked}
 use Rattle.columnar.specs.Rows.{valid_at, cells_from, boolean_cells, ticks_of, Within}
-use Rattle.columnar.proofs.CellRows.{length_cells, length_unpacked}
+use Rattle.columnar.proofs.CellRows.{length_cells, length_unpacked, same_nulls}
 use Rattle.walk.specs.Visits.{visits, told_all}
 
 valid_by : (b : Bool) → ◌≡◌ {A = ℕ} (cond (not b) 1 0) 0 → b ≡ true
@@ -23,6 +24,10 @@ plain_from {V} p i (x ∷ xs) e =
 -- a column without nulls
 pub plain_cells : {V : Type 0} (p : ℕ → Bool) (xs : List V) → nulls (cells_from p 0 xs) ≡ 0 → cells_from p 0 xs ≡ cells_from (λ (j : ℕ). true) 0 xs
 plain_cells p xs e = plain_from p 0 xs e
+
+-- the same where the nulls are counted by row number alone, as a column's are
+pub plain_counted : {V : Type 0} (p : ℕ → Bool) (xs : List V) (n : ℕ) → length xs ≡ n → nulls (cells_from p 0 (range_with_len 0 n)) ≡ 0 → cells_from p 0 xs ≡ cells_from (λ (j : ℕ). true) 0 xs
+plain_counted p xs n count e = plain_cells p xs (same_nulls p xs (range_with_len 0 n) (count ∙ sym (length-range_with_len 0 n)) ∙ e)
 
 -- row j of a filter that is given
 abbrev pub tick_at : List ℕ → ℕ → Option (List ℕ) → ℕ → ℕ → Bool

@@ -1,6 +1,7 @@
 ghost use Rattle.std.specs.Prelude.{◌≡◌, ℕ, ◌<◌, Bool, List, map, length, IfSome};
 ghost use Rattle.std.specs.List.{range_with_len, All};
 ghost use Rattle.columnar.specs.Cells.{passes as let_through};
+ghost use Rattle.columnar.specs.Packed.{unpacked};
 ghost use Rattle.columnar.specs.Rows.{cells_from};
 ghost use Rattle.columnar.specs.Columns.{items_of, rows_of};
 ghost use Rattle.columnar.specs.Views.{ticks};
@@ -36,9 +37,9 @@ pub trait Visitor<T> {
 /// The one rule of every walk: tells the visitor the group and the value of each row that is valid and passes, by tests of
 /// its number, in ascending order.
 // What is asked and told of the visitor stands at each function here, in the words of its trait.
-fn walk<L: Readable, P: Fn(usize) -> bool, Q: Fn(usize) -> bool, V: Visitor<L::Item>>(
+fn walk<S, L: Readable<S>, P: Fn(usize) -> bool, Q: Fn(usize) -> bool, V: Visitor<L::Item>>(
     group_indices: &[usize],
-    values: &Items<'_, L>,
+    values: &Items<'_, L, S>,
     valid: P,
     passes: Q,
     visitor: &mut V,
@@ -47,9 +48,9 @@ fn walk<L: Readable, P: Fn(usize) -> bool, Q: Fn(usize) -> bool, V: Visitor<L::I
     requires named { All (λ k. k < (V.Visitor.fixed visitor.old).0) group_indices.now }
     requires valid { (j : ℕ) → j < length group_indices.now → P.pre valid j }
     requires passes { (j : ℕ) → j < length group_indices.now → Q.pre passes j }
-    ensures told { (p q : ℕ → Bool) → Tests (P.post valid) p (length group_indices.now) → Tests (Q.post passes) q (length group_indices.now) → V.Visitor.model visitor.new ≡ told_all V.Visitor.after (V.Visitor.model visitor.old) (visits group_indices.now (cells_from p 0 (items_of values.now)) (map q (range_with_len 0 (length group_indices.now)))) }
+    ensures told { (p q : ℕ → Bool) → Tests (P.post valid) p (length group_indices.now) → Tests (Q.post passes) q (length group_indices.now) → V.Visitor.model visitor.new ≡ told_all V.Visitor.after (V.Visitor.model visitor.old) (visits group_indices.now (cells_from p 0 (items_of L.PackingOf.items values.now)) (map q (range_with_len 0 (length group_indices.now)))) }
     ensures same { V.Visitor.fixed visitor.new ≡ V.Visitor.fixed visitor.old }
-    ensures fits { (p q : ℕ → Bool) → Tests (P.post valid) p (length group_indices.now) → Tests (Q.post passes) q (length group_indices.now) → All (λ v. V.Visitor.fit v.1) (visits group_indices.now (cells_from p 0 (items_of values.now)) (map q (range_with_len 0 (length group_indices.now)))) }
+    ensures fits { (p q : ℕ → Bool) → Tests (P.post valid) p (length group_indices.now) → Tests (Q.post passes) q (length group_indices.now) → All (λ v. V.Visitor.fit v.1) (visits group_indices.now (cells_from p 0 (items_of L.PackingOf.items values.now)) (map q (range_with_len 0 (length group_indices.now)))) }
 {
     for (j, group) in group_indices.iter().enumerate() {
         if valid(j) && passes(j) {
@@ -59,18 +60,18 @@ fn walk<L: Readable, P: Fn(usize) -> bool, Q: Fn(usize) -> bool, V: Visitor<L::I
 }
 
 /// Tells the visitor the group and the value of each valid row that the filter lets through, in ascending order.
-pub fn accumulate<L: Readable, V: Visitor<L::Item>>(
+pub fn accumulate<S, L: Readable<S>, V: Visitor<L::Item>>(
     group_indices: &[usize],
-    values: &FlatColumn<'_, L>,
+    values: &FlatColumn<'_, L, S>,
     opt_filter: &Filter<'_>,
     visitor: &mut V,
 )
-    requires even { length group_indices.now ≡ length (rows_of values.now) }
+    requires even { length group_indices.now ≡ length (rows_of L.PackingOf.items values.now) }
     requires named { All (λ k. k < (V.Visitor.fixed visitor.old).0) group_indices.now }
     requires ticked { IfSome (ticks opt_filter.now) (λ ts. length ts ≡ length group_indices.now) }
-    ensures told { V.Visitor.model visitor.new ≡ told_all V.Visitor.after (V.Visitor.model visitor.old) (visits group_indices.now (rows_of values.now) (let_through (ticks opt_filter.now) (length group_indices.now))) }
+    ensures told { V.Visitor.model visitor.new ≡ told_all V.Visitor.after (V.Visitor.model visitor.old) (visits group_indices.now (rows_of L.PackingOf.items values.now) (let_through (ticks opt_filter.now) (length group_indices.now))) }
     ensures same { V.Visitor.fixed visitor.new ≡ V.Visitor.fixed visitor.old }
-    ensures fits { All (λ v. V.Visitor.fit v.1) (visits group_indices.now (rows_of values.now) (let_through (ticks opt_filter.now) (length group_indices.now))) }
+    ensures fits { All (λ v. V.Visitor.fit v.1) (visits group_indices.now (rows_of L.PackingOf.items values.now) (let_through (ticks opt_filter.now) (length group_indices.now))) }
 {
     // One match over the four cases, as the Rust has it, which picks the two tests of the one walk.
     // Copies, which a visit cannot change: what lies behind a reference would be read anew for each row.
@@ -112,12 +113,12 @@ pub fn accumulate_boolean<V: Visitor<bool>>(
     opt_filter: &Filter<'_>,
     visitor: &mut V,
 )
-    requires even { length group_indices.now ≡ length (rows_of values.now) }
+    requires even { length group_indices.now ≡ length (rows_of unpacked values.now) }
     requires named { All (λ k. k < (V.Visitor.fixed visitor.old).0) group_indices.now }
     requires ticked { IfSome (ticks opt_filter.now) (λ ts. length ts ≡ length group_indices.now) }
-    ensures told { V.Visitor.model visitor.new ≡ told_all V.Visitor.after (V.Visitor.model visitor.old) (visits group_indices.now (rows_of values.now) (let_through (ticks opt_filter.now) (length group_indices.now))) }
+    ensures told { V.Visitor.model visitor.new ≡ told_all V.Visitor.after (V.Visitor.model visitor.old) (visits group_indices.now (rows_of unpacked values.now) (let_through (ticks opt_filter.now) (length group_indices.now))) }
     ensures same { V.Visitor.fixed visitor.new ≡ V.Visitor.fixed visitor.old }
-    ensures fits { All (λ v. V.Visitor.fit v.1) (visits group_indices.now (rows_of values.now) (let_through (ticks opt_filter.now) (length group_indices.now))) }
+    ensures fits { All (λ v. V.Visitor.fit v.1) (visits group_indices.now (rows_of unpacked values.now) (let_through (ticks opt_filter.now) (length group_indices.now))) }
 {
     let bits = values.values;
     let known = values.validity;

@@ -2,7 +2,7 @@ use Rattle.std.proofs.Common.{sym, refl, ap, ◌∙◌, arith, rules}
 use Rattle.std.specs.Option.{option_map}
 use Rattle.columnar.specs.Rows.{valid_at}
 use Rattle.columnar.proofs.CellRows.{length_cells}
-use Rattle.walk.proofs.Tests.{plain_cells, none_passes, some_passes, tick_count, some_within, told_rows, fits_rows}
+use Rattle.walk.proofs.Tests.{plain_counted, none_passes, some_passes, tick_count, some_within, told_rows, fits_rows}
 use Rattle.walk.proofs.accumulate.accumulate.Goals as goal
 
 pub walk-requires-clause-even : goal.walk-requires-clause-even
@@ -61,7 +61,7 @@ returns-in_default-None-clause-told g c =
     let k = c.args.values.now in
     let f = c.args.opt_filter.now in
     let through = none_passes _ f.start (option_map (λ x. x.now) f.validity.mask) f.validity.start f.validity.len _ (ap (option_map (λ x. x.now)) c.in_default-None.is-1) in
-    told_rows c.args.group_indices.now (plain_cells _ _ (sym k.counted ∙ c.if-n-eq0.true)) through w.after (w.model c.args.visitor.now) (c.walk.ensures.told _ _ (λ j b h e. search rules) (λ j b h e. search rules))
+    told_rows c.args.group_indices.now (plain_counted _ _ k.values.len (g.met.L.Readable.counts k.values.slots.now k.values.start k.values.len k.values.fits) (sym k.counted ∙ c.if-n-eq0.true)) through w.after (w.model c.args.visitor.now) (c.walk.ensures.told _ _ (λ j b h e. search rules) (λ j b h e. search rules))
 
 pub returns-in_default-None-clause-fits : goal.returns-in_default-None-clause-fits
 returns-in_default-None-clause-fits g c =
@@ -69,7 +69,7 @@ returns-in_default-None-clause-fits g c =
     let k = c.args.values.now in
     let f = c.args.opt_filter.now in
     let through = none_passes _ f.start (option_map (λ x. x.now) f.validity.mask) f.validity.start f.validity.len _ (ap (option_map (λ x. x.now)) c.in_default-None.is-1) in
-    fits_rows c.args.group_indices.now (plain_cells _ _ (sym k.counted ∙ c.if-n-eq0.true)) through w.fit (c.walk.ensures.fits _ _ (λ j b h e. search rules) (λ j b h e. search rules))
+    fits_rows c.args.group_indices.now (plain_counted _ _ k.values.len (g.met.L.Readable.counts k.values.slots.now k.values.start k.values.len k.values.fits) (sym k.counted ∙ c.if-n-eq0.true)) through w.fit (c.walk.ensures.fits _ _ (λ j b h e. search rules) (λ j b h e. search rules))
 
 pub returns-in_default-None-2-clause-told : goal.returns-in_default-None-2-clause-told
 returns-in_default-None-2-clause-told g c =
@@ -95,7 +95,7 @@ returns-in_default-Some-clause-told g c =
     let known = option_map (λ x. x.now) f.validity.mask in
     let given = ap (option_map (λ x. x.now)) c.in_default-Some.is-1 in
     let through = some_passes _ f.start known f.validity.start f.validity.len _ given c.requires.ticked in
-    told_rows c.args.group_indices.now (plain_cells _ _ (sym k.counted ∙ c.if-n-eq0-2.true)) through w.after (w.model c.args.visitor.now) (c.walk-in_default-Some.ensures.told _ _ (λ j b h e. search rules) (λ j b h e. search rules))
+    told_rows c.args.group_indices.now (plain_counted _ _ k.values.len (g.met.L.Readable.counts k.values.slots.now k.values.start k.values.len k.values.fits) (sym k.counted ∙ c.if-n-eq0-2.true)) through w.after (w.model c.args.visitor.now) (c.walk-in_default-Some.ensures.told _ _ (λ j b h e. search rules) (λ j b h e. search rules))
 
 pub returns-in_default-Some-clause-fits : goal.returns-in_default-Some-clause-fits
 returns-in_default-Some-clause-fits g c =
@@ -105,7 +105,7 @@ returns-in_default-Some-clause-fits g c =
     let known = option_map (λ x. x.now) f.validity.mask in
     let given = ap (option_map (λ x. x.now)) c.in_default-Some.is-1 in
     let through = some_passes _ f.start known f.validity.start f.validity.len _ given c.requires.ticked in
-    fits_rows c.args.group_indices.now (plain_cells _ _ (sym k.counted ∙ c.if-n-eq0-2.true)) through w.fit (c.walk-in_default-Some.ensures.fits _ _ (λ j b h e. search rules) (λ j b h e. search rules))
+    fits_rows c.args.group_indices.now (plain_counted _ _ k.values.len (g.met.L.Readable.counts k.values.slots.now k.values.start k.values.len k.values.fits) (sym k.counted ∙ c.if-n-eq0-2.true)) through w.fit (c.walk-in_default-Some.ensures.fits _ _ (λ j b h e. search rules) (λ j b h e. search rules))
 
 pub returns-in_default-Some-2-clause-told : goal.returns-in_default-Some-2-clause-told
 returns-in_default-Some-2-clause-told g c =

@@ -12,8 +12,8 @@ returns-then-not-self g c =
     let s = c.args.self.now in
     let n = c.readable_rows-len.result in
     c.plain.ensures
-    ∙ held_plain s.masked s.bits.now n (g.L.Packing.items s.values.now 0 n) c.if-not-self.true
-    ∙ ap (λ k. held_as s.masked s.bits.now k (g.L.Packing.items s.values.now 0 k)) (rows_are _ _ _ _ _ _ c.lacks.ensures c.readable_rows-len.ensures)
+    ∙ held_plain s.masked s.bits.now n (g.L.PackingOf.items s.values.now 0 n) c.if-not-self.true
+    ∙ ap (λ k. held_as s.masked s.bits.now k (g.L.PackingOf.items s.values.now 0 k)) (rows_are _ _ _ _ _ _ c.lacks.ensures c.readable_rows-len.ensures)
 
 pub returns : goal.returns
 returns g c =
@@ -22,5 +22,5 @@ returns g c =
     let is = rows_are (g.L.Packing.holds (length s.values.now)) _ _ _ _ _ c.lacks.ensures c.readable_rows-len.ensures in
     let shows = rw c.unwrap.ensures at c.new.ensures.shows in
     shows
-    ∙ held_masked s.masked s.bits.now n (g.L.Packing.items s.values.now 0 n) c.if-not-self.false (g.met.L.Readable.counts s.values.now 0 n (omega (arith, readable_within (g.L.Packing.holds (length s.values.now)) (length s.bits.now) s.masked s.len n is)))
-    ∙ ap (λ k. held_as s.masked s.bits.now k (g.L.Packing.items s.values.now 0 k)) is
+    ∙ held_masked s.masked s.bits.now n (g.L.PackingOf.items s.values.now 0 n) c.if-not-self.false (g.met.L.Readable.counts s.values.now 0 n (omega (arith, readable_within (g.L.Packing.holds (length s.values.now)) (length s.bits.now) s.masked s.len n is)))
+    ∙ ap (λ k. held_as s.masked s.bits.now k (g.L.PackingOf.items s.values.now 0 k)) is

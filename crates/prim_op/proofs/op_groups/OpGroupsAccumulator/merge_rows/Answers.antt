@@ -13,7 +13,7 @@ returns g c =
     let k = primitive o.start o.rule in
     let m = meaning_of c.args.self.now in
     let v = c.args.values.now.values in
-    let rows = cells_under c.args.values.now.validity (g.L.Packing.items v.slots.now v.start v.len) in
+    let rows = cells_under c.args.values.now.validity (g.L.PackingOf.items v.slots.now v.start v.len) in
     let gs = c.args.group_indices.now in
     let total = c.args.total in
     record {
