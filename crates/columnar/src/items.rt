@@ -32,6 +32,12 @@ impl<'a, L: Packing, S> Clone for Items<'a, L, S> {
 
 impl<'a, L: Packing, S> Copy for Items<'a, L, S> {}
 
+// Items hold nothing of their packing, so their marker is to ask nothing of it where a bound asks `Send` or `Sync`. That they
+// may be sent and shared is proved of the slots, wherever a call asks it, and not taken from here.
+unsafe impl<'a, L: Packing, S: Sync> Send for Items<'a, L, S> {}
+
+unsafe impl<'a, L: Packing, S: Sync> Sync for Items<'a, L, S> {}
+
 /// Packed bits, lent: bit `start + j` of the bytes is row j.
 pub type Mask<'a> = Items<'a, Packed, u8>;
 

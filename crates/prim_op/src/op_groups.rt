@@ -40,6 +40,11 @@ pub struct OpGroupsAccumulator<'m, T, O, L, S> {
     pub(crate) packing: PhantomData<(L, S)>,
 }
 
+// It holds no slots of its packing, so nothing is asked of them where it crosses to another thread or is shared with one.
+unsafe impl<'m, T: Send, O: Send, L: Send, S> Send for OpGroupsAccumulator<'m, T, O, L, S> {}
+
+unsafe impl<'m, T: Sync, O: Sync, L: Sync, S> Sync for OpGroupsAccumulator<'m, T, O, L, S> {}
+
 impl<'m, T: Copy, O: Operation<T>, L, S> OpGroupsAccumulator<'m, T, O, L, S> {
     /// An accumulator of no groups, over lent memory with a place and a mark for each group that it may keep. Its limits are
     /// the least of the number asked for, the cap and, for groups, the places given.
